@@ -19,4 +19,5 @@ pub mod OneOrder
 pub mod Repeats
 pub mod Within
 pub mod Batched
+pub mod HeldBack
 pub mod RefusalNumbers

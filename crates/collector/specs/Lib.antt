@@ -9,6 +9,8 @@ pub mod Drafts
 pub mod DraftGrowth
 pub mod Watching
 pub mod Recording
+pub mod Mark
+pub mod Marks
 pub mod Transcripts
 pub mod WrittenBytes
 pub mod Partitions

@@ -55,19 +55,25 @@ graph_app = queried (with_rule (with_rule (new_app (codes "graph")) (flag_rule (
 abbrev pub format_app : App
 format_app = queried (new_app (codes "format"))
 
--- `run QUERY INPUT`, with or without `--workers N`, `--watch`, `--stats` and `--dot`
+-- `--end-mark`
+abbrev pub end_mark_rule : Rule
+end_mark_rule = flag_rule (codes "end-mark")
+
+-- `run QUERY INPUT`, with or without `--workers N`, `--watch`, `--stats`, `--dot` and `--end-mark`
 abbrev pub run_app : App
 run_app =
     with_rule
     (queried
     (with_rule
+    (with_rule
     (with_rule (with_rule (with_rule (new_app (codes "run")) workers_rule) (flag_rule (codes "watch"))) (flag_rule (codes "stats")))
-    (flag_rule (codes "dot"))))
+    (flag_rule (codes "dot")))
+    end_mark_rule))
     (word_rule (codes "INPUT"))
 
--- `follow QUERY` or `follow QUERY INPUT`, with or without `--workers N`
+-- `follow QUERY` or `follow QUERY INPUT`, with or without `--workers N` and `--end-mark`
 abbrev pub follow_app : App
-follow_app = with_rule (queried (with_rule (new_app (codes "follow")) workers_rule)) (optional_rule (codes "INPUT"))
+follow_app = with_rule (queried (with_rule (with_rule (new_app (codes "follow")) workers_rule) end_mark_rule)) (optional_rule (codes "INPUT"))
 
 -- `replay QUERY SCHEDULE`, with or without `--workers N` and `--views`
 abbrev pub replay_app : App
@@ -149,14 +155,14 @@ IsAskedInput (Some word) input = input ≡ word
 
 -- the options are what the matches of a command hold
 abbrev pub HoldsAt : Text → List Row → Options → Type 0
-HoldsAt name rows (Run query input workers watch stats explain) =
+HoldsAt name rows (Run query input workers watch stats end_mark explain) =
     (name ≡ codes "run") × IsAskedQuery rows query × (first_of (codes "INPUT") rows ≡ Some input.now)
     × AreAskedFor (one_of (codes "workers") rows) workers.count
-    × IsFlag (codes "watch") rows watch × AreStats rows stats × IsFlag (codes "explain") rows explain
-HoldsAt name rows (Follow query input workers explain) =
+    × IsFlag (codes "watch") rows watch × AreStats rows stats × IsFlag (codes "end-mark") rows end_mark × IsFlag (codes "explain") rows explain
+HoldsAt name rows (Follow query input workers end_mark explain) =
     (name ≡ codes "follow") × IsAskedQuery rows query × IsAskedInput (first_of (codes "INPUT") rows) input.now
     × AreAskedFor (one_of (codes "workers") rows) workers.count
-    × IsFlag (codes "explain") rows explain
+    × IsFlag (codes "end-mark") rows end_mark × IsFlag (codes "explain") rows explain
 HoldsAt name rows (Check query input heap explain) =
     (name ≡ codes "check") × IsAskedQuery rows query × (option_map (λ s. s.now) input ≡ first_of (codes "INPUT") rows)
     × IsAskedHeap (one_of (codes "heap") rows) heap
@@ -191,8 +197,8 @@ AreBothInput query other = IsQueryInput query × (other ≡ codes "-")
 
 -- both texts that the options name are standard input
 abbrev pub NamesInputTwice : Options → Type 0
-NamesInputTwice (Run query input workers watch stats explain) = AreBothInput query input.now
-NamesInputTwice (Follow query input workers explain) = AreBothInput query input.now
+NamesInputTwice (Run query input workers watch stats end_mark explain) = AreBothInput query input.now
+NamesInputTwice (Follow query input workers end_mark explain) = AreBothInput query input.now
 NamesInputTwice (Check query (Some input) heap explain) = AreBothInput query input.now
 NamesInputTwice (Check query None heap explain) = ⊥
 NamesInputTwice (Graph query form heap explain) = ⊥

@@ -88,6 +88,18 @@ fn explain_arg<'a>(alloc: Global) -> Arg<'a>
     )
 }
 
+/// The flag `--end-mark`.
+fn end_mark_arg<'a>(alloc: Global) -> Arg<'a>
+    ensures rule { rule_of result ≡ flag_rule (codes "end-mark") }
+    ensures local { result.global ≡ false }
+{
+    flag_arg(
+        alloc,
+        "end-mark",
+        "The input has to end with a line 'end', or it was cut off",
+    )
+}
+
 /// The option `--workers N`.
 fn workers_arg<'a>(alloc: Global) -> Arg<'a>
     ensures rule { rule_of result ≡ range_rule (codes "workers") 1 64 }
@@ -192,7 +204,8 @@ fn run_command<'a>(alloc: Global) -> Result<Command<'a>, AllocError>
             alloc,
             "dot",
             "The same as --stats, in a drawing for Graphviz",
-        ))?;
+        ))?
+        .arg(end_mark_arg(alloc))?;
     with_query(alloc, command)?.arg(word_arg(alloc, "INPUT", INPUT))
 }
 
@@ -205,7 +218,8 @@ fn follow_command<'a>(alloc: Global) -> Result<Command<'a>, AllocError>
         "follow",
         "Answer a query as its input arrives, and report each complete epoch",
     );
-    with_query(alloc, command.arg(workers_arg(alloc))?)?.arg(optional_arg(
+    let command = command.arg(workers_arg(alloc))?.arg(end_mark_arg(alloc))?;
+    with_query(alloc, command)?.arg(optional_arg(
         alloc,
         "INPUT",
         "The file with the input; without it, and with -, standard input",
@@ -339,6 +353,7 @@ fn run_options<'a>(found: &ArgMatches<'a>) -> Option<Options<'a>>
     let input = text_of(found, "INPUT")?;
     let watch = flag_of(found, "watch");
     let stats = stats_of(found);
+    let end_mark = flag_of(found, "end-mark");
     let explain = flag_of(found, "explain");
     Some(Options::Run {
         query,
@@ -346,6 +361,7 @@ fn run_options<'a>(found: &ArgMatches<'a>) -> Option<Options<'a>>
         workers,
         watch,
         stats,
+        end_mark,
         explain,
     })
 }
@@ -381,11 +397,13 @@ fn follow_options<'a>(found: &ArgMatches<'a>) -> Option<Options<'a>>
     let workers = workers_of(found)?;
     let query = query_of(found)?;
     let input = followed_input(found);
+    let end_mark = flag_of(found, "end-mark");
     let explain = flag_of(found, "explain");
     Some(Options::Follow {
         query,
         input,
         workers,
+        end_mark,
         explain,
     })
 }

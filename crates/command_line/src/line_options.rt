@@ -8,20 +8,24 @@ use crate::worker_count::Workers;
 #[derive(Clone, Copy, Debug, PartialEq, Eq)]
 pub enum Options<'a> {
     /// `loom run QUERY INPUT`, on one worker or `--workers N`; with `--watch` it says how many epochs have passed, with `--stats` what
-    /// each vertex did, with `--dot` in a drawing; and a fault explained with `--explain`
+    /// each vertex did, with `--dot` in a drawing; with `--end-mark` the input has to end with a line `end`; and a fault explained with
+    /// `--explain`
     Run {
         query: Query<'a>,
         input: &'a str,
         workers: Workers,
         watch: bool,
         stats: Option<GraphForm>,
+        end_mark: bool,
         explain: bool,
     },
-    /// `loom follow QUERY`, or `loom follow QUERY INPUT`, on one worker or `--workers N`, and a fault explained with `--explain`
+    /// `loom follow QUERY`, or `loom follow QUERY INPUT`, on one worker or `--workers N`; with `--end-mark` the input has to end with a line
+    /// `end`; and a fault explained with `--explain`
     Follow {
         query: Query<'a>,
         input: &'a str,
         workers: Workers,
+        end_mark: bool,
         explain: bool,
     },
     /// `loom check QUERY`, or `loom check QUERY INPUT`, which reads the input too; in a heap of that size with `--heap BYTES`; and a fault

@@ -107,7 +107,7 @@ impl Write for Full {
     }
 }
 
-/// The query `q`, the input `i` and the schedule `s`. Their readers fail after a number of reads: one for the query's, one for the others'.
+/// The query `q`, the input `i`, the same with a last line `end` as `m`, and the schedule `s`. Their readers fail after a number of reads: one for the query's, one for the others'.
 #[derive(Clone, Copy)]
 struct Shelf {
     query: usize,
@@ -122,6 +122,10 @@ impl<'a> Sources<'a> for Shelf {
             b"q" => Slow {
                 text: b"input a/1; output a;",
                 left: self.query,
+            },
+            b"m" => Slow {
+                text: b"epoch\na 1\nend\n",
+                left: self.other,
             },
             b"s" => Slow {
                 text: b"p 0\n",
@@ -210,7 +214,7 @@ fn is_written<R: Threads + Wait + Sync>(
 
 /// Commands that write once all is read: the words, how many reads the other text than the query takes, the line of the fault if one of them is
 /// refused, and the answer.
-const COMMANDS: [(&[&str], usize, &str, &str); 7] = [
+const COMMANDS: [(&[&str], usize, &str, &str); 8] = [
     (
         &["loom", "run", "q", "i"],
         5,
@@ -221,6 +225,12 @@ const COMMANDS: [(&[&str], usize, &str, &str); 7] = [
         &["loom", "run", "--workers", "2", "q", "i"],
         5,
         "cannot read i\n",
+        "epoch 0\n1\n",
+    ),
+    (
+        &["loom", "run", "--end-mark", "q", "m"],
+        6,
+        "cannot read m\n",
         "epoch 0\n1\n",
     ),
     (&["loom", "check", "q"], 0, "", "input a/1\noutput 1\n"),

@@ -1,5 +1,5 @@
 -- A run that has ended with status 0 has answered.
-use Rattle.std.proofs.Common.{◌≡◌, ◌⊎◌, inl, inr, true, ℕ, List, Some, Result, Ok, Err, sym, subst}
+use Rattle.std.proofs.Common.{◌≡◌, ◌⊎◌, inl, inr, Bool, true, ℕ, List, Some, Result, Ok, Err, sym, subst}
 use Rattle.collector.specs.Transcripts.{is_complete}
 use Rattle.command_line.specs.declared.line_options.Options.{Options}
 use Rattle.command_line.specs.declared.line_options.Options.TheVariants.{Run, Follow, Check, Graph, Format, Replay, Explain}
@@ -24,8 +24,8 @@ not_zero ReadQuery e = absurd cc
 not_zero ReadInput e = absurd cc
 not_zero Write e = absurd cc
 
-answered : (queries : Known) (read : Transcripts) (query input old new : List ℕ) (result : Result (Unit {0}) Fault) → RunsOnTexts queries read query input (Some old) (Some new) result → 0 ≡ status_after result → IsAnswered queries read query input old new
-answered queries read query input old new (Ok u) r e =
+answered : (queries : Known) (read : Transcripts) (query input : List ℕ) (marked : Bool) (old new : List ℕ) (result : Result (Unit {0}) Fault) → RunsOnTexts queries read query input marked (Some old) (Some new) result → 0 ≡ status_after result → IsAnswered queries read query input marked old new
+answered queries read query input marked old new (Ok u) r e =
     let whole : IsReadQuery (queries query) r.query × (is_complete r.input ≡ true) = elim r.whole [ inl w ↦ w | inr down ↦ absurd down ] in
     record {
       query = r.query;
@@ -38,16 +38,17 @@ answered queries read query input old new (Ok u) r e =
       run = r.ends.0.1;
       written = r.ends.0.2;
     }
-answered queries read query input old new (Err f) r e = absurd (not_zero f e)
+answered queries read query input marked old new (Err f) r e = absurd (not_zero f e)
 
-pub run_answered : (texts : Known) (read : Transcripts) (options : Options) (q i old new : List ℕ) → AsksRun options q i → HasEnded texts read options (Some old) (Some new) 0 → IsAnswered (queries_of options texts) read q i old new
-run_answered texts read (Run query input workers watch stats explain) q i old new a d =
-    let queries : Known = queries_of (Run query input workers watch stats explain) texts in
-    subst (λ n. IsAnswered queries read n i old new) (sym a.0)
-    (subst (λ n. IsAnswered queries read (query_word query) n old new) (sym a.1) (answered queries read (query_word query) input.now old new d.result d.on_read.0 d.reported))
-run_answered texts read (Follow query input workers explain) q i old new a d = absurd a
-run_answered texts read (Check query input heap explain) q i old new a d = absurd a
-run_answered texts read (Graph query form heap explain) q i old new a d = absurd a
-run_answered texts read (Format query explain) q i old new a d = absurd a
-run_answered texts read (Replay query schedule workers views explain) q i old new a d = absurd a
-run_answered texts read (Explain code) q i old new a d = absurd a
+pub run_answered : (texts : Known) (read : Transcripts) (options : Options) (q i : List ℕ) (m : Bool) (old new : List ℕ) → AsksRun options q i m → HasEnded texts read options (Some old) (Some new) 0 → IsAnswered (queries_of options texts) read q i m old new
+run_answered texts read (Run query input workers watch stats end_mark explain) q i m old new a d =
+    let queries : Known = queries_of (Run query input workers watch stats end_mark explain) texts in
+    subst (λ n. IsAnswered queries read n i m old new) (sym a.0)
+    (subst (λ n. IsAnswered queries read (query_word query) n m old new) (sym a.1)
+    (subst (λ n. IsAnswered queries read (query_word query) input.now n old new) (sym a.2) (answered queries read (query_word query) input.now end_mark old new d.result d.on_read.0 d.reported)))
+run_answered texts read (Follow query input workers end_mark explain) q i m old new a d = absurd a
+run_answered texts read (Check query input heap explain) q i m old new a d = absurd a
+run_answered texts read (Graph query form heap explain) q i m old new a d = absurd a
+run_answered texts read (Format query explain) q i m old new a d = absurd a
+run_answered texts read (Replay query schedule workers views explain) q i m old new a d = absurd a
+run_answered texts read (Explain code) q i m old new a d = absurd a

@@ -1,5 +1,5 @@
 -- Where the texts of a line are: in files, and a query may stand on the line itself.
-use Rattle.std.specs.Prelude.{ℕ, Bool, true, false, List, Option, Some}
+use Rattle.std.specs.Prelude.{ℕ, Bool, true, false, cond, List, Option, Some, None}
 use Rattle.command_line.specs.declared.line_options.Options.{Options}
 use Rattle.command_line.specs.declared.line_options.Options.TheVariants.{Run, Follow, Check, Graph, Format, Replay, Explain}
 use Rattle.command_line.specs.declared.query.Query.{Query}
@@ -8,6 +8,10 @@ use Rattle.command_line.specs.declared.query.Query.TheVariants.{File, Inline}
 -- the bytes of the text of each name, where they are known
 abbrev pub Known : Type 0
 Known = List ℕ → Option (List ℕ)
+
+-- what is known of inputs: nothing where they have to end with the mark
+abbrev pub known_inputs : (end_mark : Bool) → Known → Known
+known_inputs end_mark texts = λ name. cond end_mark None (texts name)
 
 -- the word that stands for a query: the path of its file, or the query itself
 abbrev pub query_word : Query → List ℕ
@@ -24,8 +28,8 @@ on_line (File path) = false
 on_line (Inline text) = true
 
 abbrev pub asks_inline : Options → Bool
-asks_inline (Run query input workers watch stats explain) = on_line query
-asks_inline (Follow query input workers explain) = on_line query
+asks_inline (Run query input workers watch stats end_mark explain) = on_line query
+asks_inline (Follow query input workers end_mark explain) = on_line query
 asks_inline (Check query input heap explain) = on_line query
 asks_inline (Graph query form heap explain) = on_line query
 asks_inline (Format query explain) = on_line query

@@ -1,5 +1,5 @@
 -- What a command line comes to: what is written of it to standard output, and its status.
-use Rattle.std.specs.Prelude.{◌≡◌, ◌++◌, ◌⊎◌, true, ℕ, List, decimal, Option, Some, None, Result, Ok, Err, IfSome, option_map}
+use Rattle.std.specs.Prelude.{◌≡◌, ◌++◌, ◌⊎◌, Bool, false, true, ℕ, List, decimal, Option, Some, None, Result, Ok, Err, IfSome, option_map}
 use Rattle.clap.specs.Words.{Text}
 use Rattle.collector.specs.Transcripts.{bytes_of, is_complete}
 use Rattle.collector.specs.declared.transcript.Transcript.{Transcript}
@@ -14,7 +14,7 @@ use Rattle.command_line.specs.declared.worker_count.Workers.{Workers}
 use Rattle.diagnostics.specs.Explanations.{ExplanationEnds}
 use Rattle.diagnostics.specs.Faults.{status_of}
 use Rattle.diagnostics.specs.declared.fault.Fault.{Fault}
-use Rattle.console.specs.Asked.{Known, queries_of, query_word}
+use Rattle.console.specs.Asked.{Known, known_inputs, queries_of, query_word}
 use Rattle.console.specs.Heeded.{Heeds}
 use Rattle.console.specs.Readings.{ChecksBothOver, ChecksOver, FollowsOver, FormatsOver, GraphsOver, read_part}
 use Rattle.console.specs.Replayed.{ReplayEnds}
@@ -54,8 +54,8 @@ Explains code old new result = (row : Explanation) × (code ≡ decimal row.code
 
 -- the command of these options ends so
 abbrev pub EndsOn : (queries texts : Known) → Options → Option (List ℕ) → Option (List ℕ) → Result (Unit {0}) Fault → Type 0
-EndsOn queries texts (Run query input workers watch stats explain) old new result = RunsOn queries texts (query_word query) input.now old new result
-EndsOn queries texts (Follow query input workers explain) old new result = FollowsOn queries texts (query_word query) input.now old new result
+EndsOn queries texts (Run query input workers watch stats end_mark explain) old new result = RunsOn queries (known_inputs end_mark texts) (query_word query) input.now old new result
+EndsOn queries texts (Follow query input workers end_mark explain) old new result = FollowsOn queries (known_inputs end_mark texts) (query_word query) input.now old new result
 EndsOn queries texts (Check query input heap explain) old new result = ChecksOn queries texts (query_word query) (option_map (λ s. s.now) input) old new result
 EndsOn queries texts (Graph query form heap explain) old new result = GraphsOn queries form (query_word query) old new result
 EndsOn queries texts (Format query explain) old new result = FormatsOn queries (query_word query) old new result
@@ -86,25 +86,25 @@ Obeys texts read options old new status = IsTurnedDown old new status ⊎ HasEnd
 abbrev pub Answers : Known → Transcripts → (words : List Text) → Option (List ℕ) → Option (List ℕ) → ℕ → Type 0
 Answers texts read words old new status = IsTurnedDown old new status ⊎ ((options : Options) × Asks words options × HasEnded texts read options old new status)
 
--- The query and the input of these names were read to their ends (of the query one byte more than it may have is enough), and what was written is
--- the query's answer to the input.
-pub record IsAnswered (queries : Known) (read : Transcripts) (query_name input_name old new : List ℕ) : Type 0 where
+-- The query and the input of these names were read to their ends (of the query one byte more than it may have is enough, and an input that has to
+-- end with the mark did), and what was written is the query's answer to the input.
+pub record IsAnswered (queries : Known) (read : Transcripts) (query_name input_name : List ℕ) (end_mark : Bool) (old new : List ℕ) : Type 0 where
   pub query : Transcript
   pub input : Transcript
-  pub opened : IsOf read.query query_name query
-  pub other_opened : IsOf read.input input_name input
+  pub opened : IsOf read.query query_name false query
+  pub other_opened : IsOf read.input input_name end_mark input
   pub enough : IsReadQuery (queries query_name) query
   pub complete : is_complete input ≡ true
   pub text : List ℕ
   pub run : IsRun (bytes_of query) (bytes_of input) text
   pub written : new ≡ old ++ text
 
--- the options are of a run of a query and an input of these names
-abbrev pub AsksRun : Options → (query input : List ℕ) → Type 0
-AsksRun (Run query input workers watch stats explain) q i = (q ≡ query_word query) × (i ≡ input.now)
-AsksRun (Follow query input workers explain) q i = ⊥
-AsksRun (Check query input heap explain) q i = ⊥
-AsksRun (Graph query form heap explain) q i = ⊥
-AsksRun (Format query explain) q i = ⊥
-AsksRun (Replay query schedule workers views explain) q i = ⊥
-AsksRun (Explain code) q i = ⊥
+-- the options are of a run of a query and an input of these names, which may have to end with the mark
+abbrev pub AsksRun : Options → (query input : List ℕ) → (marked : Bool) → Type 0
+AsksRun (Run query input workers watch stats end_mark explain) q i m = (q ≡ query_word query) × (i ≡ input.now) × (m ≡ end_mark)
+AsksRun (Follow query input workers end_mark explain) q i m = ⊥
+AsksRun (Check query input heap explain) q i m = ⊥
+AsksRun (Graph query form heap explain) q i m = ⊥
+AsksRun (Format query explain) q i m = ⊥
+AsksRun (Replay query schedule workers views explain) q i m = ⊥
+AsksRun (Explain code) q i m = ⊥

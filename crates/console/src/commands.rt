@@ -2,6 +2,7 @@
 
 ghost use Rattle.std.specs.Prelude.{◌≡◌, [], None, option_map};
 ghost use Rattle.collector.specs.Watching.{inner_of};
+ghost use Rattle.console.specs.Asked.{known_inputs};
 ghost use Rattle.console.specs.Commands.{ChecksOn, FollowsOn, FormatsOn, GraphsOn, ReplaysOn, RunsOn};
 ghost use Rattle.console.specs.Readings.{ChecksBothOnHanded, ChecksBothOver, ChecksOnHanded, ChecksOver, GraphsOnHanded, GraphsOver};
 ghost use Rattle.console.specs.Transcribed.{ChecksOnTexts, FollowsOnTexts, FormatsOnTexts, GraphsOnTexts, IsClosed, ReplaysOnTexts, RunsOnTexts, StartsSeveral};
@@ -17,7 +18,7 @@ use crate::running::run;
 use crate::streams::Streams;
 use crate::transcripts::Transcripts;
 use bumpalo::Bump;
-use collector::{Opened, Sources, Watched, open_named};
+use collector::{Opened, Sources, Watched, open_marked, open_named};
 use command_line::{GraphForm, HeapSize, Workers};
 use diagnostics::{Fault, Texts};
 use linked_list_allocator::LocalHeap;
@@ -40,6 +41,8 @@ pub struct Task<'a, 'q, Q> {
     pub query: Place<'a, 'q, Q>,
     /// An input or a schedule.
     pub input: &'a str,
+    /// Whether the input has to end with the mark. Of a schedule nothing is asked.
+    pub end_mark: bool,
     pub workers: Workers,
 }
 
@@ -106,14 +109,14 @@ pub fn run_named<
     streams: &mut Streams<W, E, O>,
     kept: &mut Kept<'a>,
 ) -> Result<(), Fault>
-    ensures known { RunsOn (Q.content task.entry.query.queries.now) (S.content sources.now) task.entry.query.name.now task.entry.input.now
+    ensures known { RunsOn (Q.content task.entry.query.queries.now) (known_inputs task.entry.end_mark (S.content sources.now)) task.entry.query.name.now task.entry.input.now
         (W.contents (inner_of streams.old.out)) (W.contents (inner_of streams.new.out)) result }
-    ensures read { RunsOnTexts (Q.content task.entry.query.queries.now) kept.new.transcripts task.entry.query.name.now task.entry.input.now
+    ensures read { RunsOnTexts (Q.content task.entry.query.queries.now) kept.new.transcripts task.entry.query.name.now task.entry.input.now task.entry.end_mark
         (W.contents (inner_of streams.old.out)) (W.contents (inner_of streams.new.out)) result }
     ensures several { StartsSeveral task.entry.workers result }
 {
     let mut query = open_named(task.query.queries, task.query.name);
-    let mut input = open_named(sources, task.input);
+    let mut input = open_marked(sources, task.input, task.end_mark);
     let options = RunOptions {
         workers: task.workers,
         stats,
@@ -142,11 +145,13 @@ pub fn follow_named<'a, R: Threads + Sync, Q: Sources<'a>, S: Sources<'a>, W: Wr
     out: &mut Watched<W>,
     kept: &mut Kept<'a>,
 ) -> Result<(), Fault>
-    ensures known { FollowsOn (Q.content task.entry.query.queries.now) (S.content sources.now) task.entry.query.name.now task.entry.input.now (W.contents (inner_of out.old)) (W.contents (inner_of out.new)) result }
-    ensures read { FollowsOnTexts (Q.content task.entry.query.queries.now) kept.new.transcripts task.entry.query.name.now task.entry.input.now (W.contents (inner_of out.old)) (W.contents (inner_of out.new)) result }
+    ensures known { FollowsOn (Q.content task.entry.query.queries.now) (known_inputs task.entry.end_mark (S.content sources.now)) task.entry.query.name.now task.entry.input.now
+        (W.contents (inner_of out.old)) (W.contents (inner_of out.new)) result }
+    ensures read { FollowsOnTexts (Q.content task.entry.query.queries.now) kept.new.transcripts task.entry.query.name.now task.entry.input.now task.entry.end_mark
+        (W.contents (inner_of out.old)) (W.contents (inner_of out.new)) result }
 {
     let mut query = open_named(task.query.queries, task.query.name);
-    let mut input = open_named(sources, task.input);
+    let mut input = open_marked(sources, task.input, task.end_mark);
     let done = follow_query(
         rt,
         alloc,

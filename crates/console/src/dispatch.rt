@@ -21,7 +21,7 @@ use command_line::{LineFault, Options, Query, options};
 use compile::warnings_of;
 use diagnostics::{
     Fault, Plain, TextNames, Texts, Word, explain_fault, row_of_word, write_explanation,
-    write_path_hint, write_warnings,
+    write_path_hint, write_told, write_warnings,
 };
 use refusals::NUMBERS;
 use schedule::ViewKind;
@@ -129,12 +129,12 @@ fn write_fault<E: Write>(
     err: &mut E,
 ) -> io::Result<()> {
     let (query, input, explain) = texts_of(asked);
+    let names = TextNames { query, input };
     let mut text = Vec::new(alloc);
-    if fault.write_line(query, input, &mut text).is_err() {
-        return fault.write_line(query, input, err);
+    if write_told(fault, names, texts, &mut text).is_err() {
+        return write_told(fault, names, texts, err);
     }
     if explain {
-        let names = TextNames { query, input };
         let _ = explain_fault(alloc, fault, names, texts, &mut text);
         let _ = write_path_hint(fault, query, &mut text);
     }
@@ -279,6 +279,7 @@ fn answer_asked<
             workers,
             watch,
             stats,
+            end_mark,
             ..
         } => {
             if !watch {
@@ -287,6 +288,7 @@ fn answer_asked<
             let task = Task {
                 query: place_of(queries, query),
                 input,
+                end_mark,
                 workers,
             };
             Some(run_named(rt, alloc, sources, task, stats, streams, kept))
@@ -295,11 +297,13 @@ fn answer_asked<
             query,
             input,
             workers,
+            end_mark,
             ..
         } => {
             let task = Task {
                 query: place_of(queries, query),
                 input,
+                end_mark,
                 workers,
             };
             Some(follow_named(rt, alloc, sources, task, &mut streams.out, kept))
@@ -314,6 +318,7 @@ fn answer_asked<
             let task = Task {
                 query: place_of(queries, query),
                 input: schedule,
+                end_mark: false,
                 workers,
             };
             let kind = view_kind(views);

@@ -1,6 +1,6 @@
 //! A query and an input have one answer; what following writes and replaying prints is what the query means; a run that ends well has answered.
 
-ghost use Rattle.std.specs.Prelude.{◌≡◌, ℕ, List, Some};
+ghost use Rattle.std.specs.Prelude.{◌≡◌, ℕ, Bool, List, Some};
 ghost use Rattle.semantics.specs.Multiset.{Record};
 ghost use Rattle.graph.specs.Shown.{GraphValue};
 ghost use Rattle.follow.specs.Entries.{Entry};
@@ -36,8 +36,9 @@ pub fn law_replayed()
     ensures { (query : List ℕ) (s : Setting) (x : State) (epoch output : ℕ) (label text : List ℕ) → IsPromisedByText query s x epoch output label text }
 {}
 
-/// A run that has ended with status 0 has read both texts to their ends, whatever is known of them, and what was written is their answer.
+/// A run that has ended with status 0 has read both texts to their ends, whatever is known of them, and what was written is their answer. An input
+/// that has to end with the mark did.
 pub fn law_answered()
-    ensures { (texts : Known) (read : Transcripts) (options : Options) (query input old new : List ℕ)
-        → AsksRun options query input → HasEnded texts read options (Some old) (Some new) 0 → IsAnswered (queries_of options texts) read query input old new }
+    ensures { (texts : Known) (read : Transcripts) (options : Options) (query input : List ℕ) (marked : Bool) (old new : List ℕ) → AsksRun options query input marked
+        → HasEnded texts read options (Some old) (Some new) 0 → IsAnswered (queries_of options texts) read query input marked old new }
 {}

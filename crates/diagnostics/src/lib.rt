@@ -33,5 +33,5 @@ pub use explain::{TextNames, explain_fault};
 pub use explanation::{row_of_word, write_explanation};
 pub use fault::Fault;
 pub use read_texts::Texts;
-pub use reason::write_path_hint;
+pub use reason::{write_path_hint, write_told};
 pub use warnings::{Doubt, Unused, Warnings, write_warnings};

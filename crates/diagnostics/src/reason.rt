@@ -1,9 +1,31 @@
 //! Why a text can't be read.
 
+use crate::display::Plain;
 use crate::excerpt::write_name;
+use crate::explain::TextNames;
 use crate::fault::Fault;
+use crate::read_texts::Texts;
 use std::io;
 use std::io::{ErrorKind, Write};
+
+/// Writes the one line of a fault. Of an input that has to end with the mark, and doesn't, it says so.
+pub fn write_told<W: Write>(
+    fault: &Fault,
+    names: TextNames<'_>,
+    texts: &Texts,
+    writer: &mut W,
+) -> io::Result<()> {
+    match (fault, texts.reason) {
+        (Fault::ReadInput, Some(ErrorKind::UnexpectedEof)) => {
+            let path = Plain(names.input);
+            writeln!(
+                writer,
+                "cannot read {path} to its end: the last line isn't 'end'"
+            )
+        }
+        _ => fault.write_line(names.query, names.input, writer),
+    }
+}
 
 /// Writes what the system said of the text with that name, if it said something.
 pub fn write_reason<W: Write>(
@@ -29,6 +51,7 @@ fn sentence(kind: ErrorKind) -> &'static str {
         ErrorKind::PermissionDenied => "permission denied",
         ErrorKind::InvalidFilename => "the name is too long",
         ErrorKind::FilesystemLoop => "too many symbolic links",
+        ErrorKind::UnexpectedEof => "it was cut off: with --end-mark only a line 'end' ends it",
         ErrorKind::WouldBlock => "there is nothing to read yet, and this stream doesn't wait",
         _ => "the system can't read it",
     }

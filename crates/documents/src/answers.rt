@@ -95,6 +95,16 @@ fn prints(
     })
 }
 
+/// What the program writes to standard error that is called with these words.
+pub fn help_of(
+    rt: &HostRuntime,
+    threads: &(impl Threads + Wait + Sync),
+    words: &[&str],
+) -> io::Result<String> {
+    let printed = prints(rt, threads, None, words)?;
+    Ok(String::from_utf8_lossy(rt.alloc(), printed.err.as_slice())?)
+}
+
 /// The words of a run on that many workers.
 fn words_on<'a>(rt: &HostRuntime, words: &[&'a str], number: &'a str) -> io::Result<Vec<&'a str>> {
     let (front, rest) = words.split_at(words.len().min(2));

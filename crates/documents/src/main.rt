@@ -3,17 +3,23 @@
 //! Its words are Markdown files. In each of them a line `$ ./loom ..` of a code block is answered by the calls that the program `loom`
 //! makes, and a line `$ cat ..` by the file. It prints a line for each document that is right, each place where one is wrong, and ends
 //! with status 1 if any is. The documents and the files that they name are in its folder `data`, where the gate runs it. They are the
-//! pages for users, `worked/` with answers that were worked out by hand, and `wrong.md` with deliberate mistakes, which tests the replay itself.
-//! So the expected status is 1.
+//! pages for users, and `worked/` with answers that were worked out by hand. Of the manual page and of the completion it compares the commands and
+//! options with those of the help. `wrong.md`, `wrong.1` and `wrong.bash` contain deliberate mistakes, which test the program itself. So the expected
+//! status is 1.
 #![tactic(auto)]
 
 mod answers;
 mod explanations;
 mod lines;
+mod options;
 mod sessions;
 
+use crate::answers::help_of;
 use crate::explanations::{has_table, is_explained, rows};
 use crate::lines::printed;
+use crate::options::{
+    Listed, commands_of, completed, described, lacking, options_of, to_complete, to_describe,
+};
 use crate::sessions::{Session, sessions};
 use refusals::{Explanation, explanation_of};
 use std::alloc::{AllocError, Global};
@@ -107,12 +113,70 @@ fn holds(rt: &HostRuntime, threads: &(impl Threads + Wait + Sync), path: &str) -
     Ok(is_right)
 }
 
+/// Whether the manual page or the completion lists the commands and options of the help. It prints a line that says so, or what differs.
+fn lists(rt: &HostRuntime, threads: &(impl Threads + Wait + Sync), path: &str) -> io::Result<bool> {
+    let alloc = rt.alloc();
+    let page = fs::read_to_string(rt, path)?;
+    let own = help_of(rt, threads, &["loom", "--help"])?;
+    let mut helps = Vec::new(alloc);
+    for command in commands_of(alloc, own.as_str())? {
+        helps.push((command, help_of(rt, threads, &["loom", "help", command])?))?;
+    }
+    let mut help = Vec::new(alloc);
+    for (command, text) in &helps {
+        help.push(Listed {
+            command: *command,
+            options: options_of(alloc, text.as_str())?,
+        })?;
+    }
+    let (wanted, found) = if path.ends_with(".bash") {
+        (
+            to_complete(alloc, help.as_slice())?,
+            completed(alloc, page.as_str())?,
+        )
+    } else {
+        let own = options_of(alloc, own.as_str())?;
+        (
+            to_describe(alloc, help.as_slice(), own.as_slice())?,
+            described(alloc, page.as_str())?,
+        )
+    };
+    is_same_list(rt, path, wanted.as_slice(), found.as_slice())
+}
+
+/// Whether what a page lists is what it should. Prints what is missing and what isn't known.
+fn is_same_list(
+    rt: &HostRuntime,
+    path: &str,
+    wanted: &[String],
+    found: &[String],
+) -> io::Result<bool> {
+    let missing = lacking(rt.alloc(), wanted, found)?;
+    let unknown = lacking(rt.alloc(), found, wanted)?;
+    for entry in &missing {
+        println!(rt; "{path}: `{entry}` is missing")?;
+    }
+    for entry in &unknown {
+        println!(rt; "{path}: `{entry}` isn't known")?;
+    }
+    let is_right = missing.is_empty() && unknown.is_empty();
+    if is_right {
+        println!(rt; "{path}: the commands and options of the help")?;
+    }
+    Ok(is_right)
+}
+
 /// Whether each document of the line is right.
 fn all_hold(rt: &HostRuntime, threads: &(impl Threads + Wait + Sync)) -> io::Result<bool> {
     let words: Vec<String> = env::args(rt)?.collect(rt.alloc())?;
     let mut is_right = true;
     for path in words.iter().skip(1) {
-        is_right = holds(rt, threads, path.as_str())? && is_right;
+        let path = path.as_str();
+        is_right = if path.ends_with(".md") {
+            holds(rt, threads, path)?
+        } else {
+            lists(rt, threads, path)?
+        } && is_right;
     }
     Ok(is_right)
 }
