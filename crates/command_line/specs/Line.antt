@@ -10,7 +10,7 @@ use Rattle.command_line.specs.declared.line_options.GraphForm.TheVariants.{Lines
 use Rattle.command_line.specs.declared.query.Query.{Query}
 use Rattle.command_line.specs.declared.query.Query.TheVariants.{File, Inline}
 use Rattle.command_line.specs.declared.line_options.Options.{Options}
-use Rattle.command_line.specs.declared.line_options.Options.TheVariants.{Run, Follow, Check, Graph, Format, Replay, Explain}
+use Rattle.command_line.specs.declared.line_options.Options.TheVariants.{Run, Follow, Check, Graph, Format, Sql, Replay, Explain}
 
 -- a word that has to be given
 abbrev pub word_rule : Text → Rule
@@ -55,6 +55,10 @@ graph_app = queried (with_rule (with_rule (new_app (codes "graph")) (flag_rule (
 abbrev pub format_app : App
 format_app = queried (new_app (codes "format"))
 
+-- `sql QUERY`, with or without `--wrapped`
+abbrev pub sql_app : App
+sql_app = queried (with_rule (new_app (codes "sql")) (flag_rule (codes "wrapped")))
+
 -- `--end-mark`
 abbrev pub end_mark_rule : Rule
 end_mark_rule = flag_rule (codes "end-mark")
@@ -95,8 +99,10 @@ line_app =
     with_subcommand
     (with_subcommand
     (with_subcommand
+    (with_subcommand
     (with_subcommand (with_subcommand (with_subcommand (with_subcommand top run_app.top) follow_app.top) check_app.top) graph_app.top)
     format_app.top)
+    sql_app.top)
     replay_app.top)
     explain_app.top
 
@@ -172,6 +178,8 @@ HoldsAt name rows (Graph query form heap explain) =
     × IsAskedHeap (one_of (codes "heap") rows) heap
     × IsFlag (codes "explain") rows explain
 HoldsAt name rows (Format query explain) = (name ≡ codes "format") × IsAskedQuery rows query × IsFlag (codes "explain") rows explain
+HoldsAt name rows (Sql query wrapped explain) =
+    (name ≡ codes "sql") × IsAskedQuery rows query × IsFlag (codes "wrapped") rows wrapped × IsFlag (codes "explain") rows explain
 HoldsAt name rows (Replay query schedule workers views explain) =
     (name ≡ codes "replay") × IsAskedQuery rows query × (first_of (codes "SCHEDULE") rows ≡ Some schedule.now)
     × AreAskedFor (one_of (codes "workers") rows) workers.count
@@ -203,6 +211,7 @@ NamesInputTwice (Check query (Some input) heap explain) = AreBothInput query inp
 NamesInputTwice (Check query None heap explain) = ⊥
 NamesInputTwice (Graph query form heap explain) = ⊥
 NamesInputTwice (Format query explain) = ⊥
+NamesInputTwice (Sql query wrapped explain) = ⊥
 NamesInputTwice (Replay query schedule workers views explain) = AreBothInput query schedule.now
 NamesInputTwice (Explain code) = ⊥
 

@@ -4,7 +4,7 @@ ghost use Rattle.std.specs.Prelude.{◌≡◌, map, option_map, IfErr, IfOk, IfS
 ghost use Rattle.clap.specs.Words.{app_of, first_of, found_of, new_app, one_of, rows_of, rule_of};
 ghost use Rattle.clap.specs.declared.builder.Command.TheViews.{out-Command as fields_of};
 ghost use Rattle.command_line.specs.Line.{AreAskedFor, AreStats, AsksTwice, Asks, Holds, HoldsAt, IsAskedHeap, IsAskedInput, IsAskedQuery, IsFlag, IsNumber};
-ghost use Rattle.command_line.specs.Line.{check_app, explain_app, flag_rule, follow_app, format_app, graph_app, inline_rule, line_app, queried};
+ghost use Rattle.command_line.specs.Line.{check_app, explain_app, flag_rule, follow_app, format_app, graph_app, inline_rule, line_app, queried, sql_app};
 ghost use Rattle.command_line.specs.Line.{optional_rule, program_app, range_rule, replay_app, run_app, word_rule};
 ghost use Rattle.command_line.specs.Faults.{IsOfWords};
 ghost use Rattle.command_line.specs.declared.line_fault.LineFault.TheVariants as fault;
@@ -184,6 +184,23 @@ fn format_command<'a>(alloc: Global) -> Result<Command<'a>, AllocError>
     )
 }
 
+fn sql_command<'a>(alloc: Global) -> Result<Command<'a>, AllocError>
+    ensures app { IfOk result (λ c. app_of c ≡ sql_app) }
+    ensures local { IfOk result (λ c. (fields_of c).has_globals ≡ false) }
+{
+    let command = named(
+        alloc,
+        "sql",
+        "Write a query as a script of SQL, for PostgreSQL",
+    );
+    let command = command.arg(flag_arg(
+        alloc,
+        "wrapped",
+        "Wrap numbers at 64 bits; else one of more bits ends the script with an error",
+    ))?;
+    with_query(alloc, command)
+}
+
 fn run_command<'a>(alloc: Global) -> Result<Command<'a>, AllocError>
     ensures app { IfOk result (λ c. app_of c ≡ run_app) }
     ensures local { IfOk result (λ c. (fields_of c).has_globals ≡ false) }
@@ -273,6 +290,7 @@ pub fn line_command<'a>(alloc: Global) -> Result<Command<'a>, AllocError>
         .subcommand(check_command(alloc)?)?
         .subcommand(graph_command(alloc)?)?
         .subcommand(format_command(alloc)?)?
+        .subcommand(sql_command(alloc)?)?
         .subcommand(replay_command(alloc)?)?
         .subcommand(explain_command(alloc)?)
 }
@@ -416,6 +434,19 @@ fn format_options<'a>(found: &ArgMatches<'a>) -> Option<Options<'a>>
     Some(Options::Format { query, explain })
 }
 
+fn sql_options<'a>(found: &ArgMatches<'a>) -> Option<Options<'a>>
+    ensures { IfSome result (HoldsAt (codes "sql") (rows_of (found_of found.now))) }
+{
+    let query = query_of(found)?;
+    let wrapped = flag_of(found, "wrapped");
+    let explain = flag_of(found, "explain");
+    Some(Options::Sql {
+        query,
+        wrapped,
+        explain,
+    })
+}
+
 fn graph_options<'a>(found: &ArgMatches<'a>) -> Option<Options<'a>>
     ensures { IfSome result (HoldsAt (codes "graph") (rows_of (found_of found.now))) }
 {
@@ -463,6 +494,7 @@ fn options_at<'a>(name: &str, found: &ArgMatches<'a>) -> Option<Options<'a>>
         b"check" => check_options(found),
         b"graph" => graph_options(found),
         b"format" => format_options(found),
+        b"sql" => sql_options(found),
         b"explain" => Some(Options::Explain {
             code: text_of(found, "CODE")?,
         }),

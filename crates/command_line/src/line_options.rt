@@ -48,6 +48,12 @@ pub enum Options<'a> {
         query: Query<'a>,
         explain: bool,
     },
+    /// `loom sql QUERY`, by wrapped arithmetic with `--wrapped`, and a fault explained with `--explain`
+    Sql {
+        query: Query<'a>,
+        wrapped: bool,
+        explain: bool,
+    },
     /// `loom replay QUERY SCHEDULE`, on one worker or `--workers N`; with `--views` each has a view of its own; and a fault explained with
     /// `--explain`
     Replay {

@@ -51,6 +51,7 @@ pub fn is_input_twice(asked: Options<'_>) -> bool
         Options::Check { input: None, .. }
         | Options::Graph { .. }
         | Options::Format { .. }
+        | Options::Sql { .. }
         | Options::Explain { .. } => false,
     }
 }

@@ -5,3 +5,4 @@ pub mod UsedNames
 pub mod CheckedInputs
 pub mod Rewritten
 pub mod OneGraph
+pub mod Scripts

@@ -6,3 +6,4 @@ pub mod CheckedInputs
 pub mod Canonical
 pub mod Unused
 pub mod SameForAll
+pub mod Scripts

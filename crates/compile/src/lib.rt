@@ -9,7 +9,7 @@
 //!
 //! The contract for the layers above is that of the composition. On any inputs the graph has exactly one flow, and it brings to each output what
 //! the text's program means there; where there is no graph, the text's first fault is named, or its size. A text has one such graph. The check of
-//! a query, alone or with an input, and its canonical text stop on the way: `checked_text`, `checked_input_text`, `canonical_text`.
+//! a query, alone or with an input, its canonical text and its script of SQL stop on the way: `checked_text`, `checked_input_text`, `canonical_text`, `script_text`.
 //!
 //! Nothing here runs a graph, reads a file or writes one: bytes come in, and bytes, a graph or a fault come out. Below are the crates of the
 //! language, `graph`, the collector, which reads the input that is checked, and `diagnostics`, which has the faults.
@@ -21,6 +21,7 @@ mod fault;
 mod formatting;
 mod input_check;
 mod laws;
+mod scripting;
 mod unused;
 mod warnings;
 
@@ -45,6 +46,8 @@ use lowering::{LowerFault, lower};
 use normalise::normalise;
 use parser::parse;
 use record_core::{NoMemory, Refusal};
+pub use scripting::script_text;
+pub use sql::Arithmetic;
 use std::alloc::{Allocator, Global};
 use typing::{Typed, check};
 pub use warnings::warnings_of;

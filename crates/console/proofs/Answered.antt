@@ -2,7 +2,7 @@
 use Rattle.std.proofs.Common.{◌≡◌, ◌⊎◌, inl, inr, Bool, true, ℕ, List, Some, Result, Ok, Err, sym, subst}
 use Rattle.collector.specs.Transcripts.{is_complete}
 use Rattle.command_line.specs.declared.line_options.Options.{Options}
-use Rattle.command_line.specs.declared.line_options.Options.TheVariants.{Run, Follow, Check, Graph, Format, Replay, Explain}
+use Rattle.command_line.specs.declared.line_options.Options.TheVariants.{Run, Follow, Check, Graph, Format, Sql, Replay, Explain}
 use Rattle.diagnostics.specs.Faults.{status_of}
 use Rattle.diagnostics.specs.declared.fault.Fault.{Fault}
 use Rattle.diagnostics.specs.declared.fault.Fault.TheVariants.{Query, TooManyVertices, Input, Schedule, NoMemory, Count, NoWorker, Incomplete, ReadQuery, ReadInput, Write}
@@ -50,5 +50,6 @@ run_answered texts read (Follow query input workers end_mark explain) q i m old 
 run_answered texts read (Check query input heap explain) q i m old new a d = absurd a
 run_answered texts read (Graph query form heap explain) q i m old new a d = absurd a
 run_answered texts read (Format query explain) q i m old new a d = absurd a
+run_answered texts read (Sql query wrapped explain) q i m old new a d = absurd a
 run_answered texts read (Replay query schedule workers views explain) q i m old new a d = absurd a
 run_answered texts read (Explain code) q i m old new a d = absurd a

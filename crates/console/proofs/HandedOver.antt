@@ -7,10 +7,12 @@ use Rattle.command_line.specs.declared.line_options.GraphForm.{GraphForm}
 use Rattle.schedule.specs.declared.verb.ViewKind.{ViewKind}
 use Rattle.console.specs.Checks.{CheckEnds}
 use Rattle.console.specs.Formats.{FormatEnds}
+use Rattle.console.specs.Scripts.{ScriptEnds}
+use Rattle.sql.specs.declared.scalar.Arithmetic.{Arithmetic}
 use Rattle.console.specs.Graphs.{GraphEnds}
 use Rattle.console.specs.Heeded.{Heeds}
 use Rattle.console.specs.InputChecks.{CheckInputEnds}
-use Rattle.console.specs.Readings.{ChecksBothOnHanded, ChecksOnHanded, EndsOnBothHanded, EndsOnHanded, FormatsOnHanded, GraphsOnHanded, HandsBoth, HandsQuery, ReplaysOnHanded, RunsOnHanded}
+use Rattle.console.specs.Readings.{ChecksBothOnHanded, ChecksOnHanded, EndsOnBothHanded, EndsOnHanded, FormatsOnHanded, GraphsOnHanded, HandsBoth, HandsQuery, ReplaysOnHanded, RunsOnHanded, ScriptsOnHanded}
 use Rattle.console.specs.Replayed.{ReplayEnds}
 use Rattle.console.specs.Runs.{Ends, IsUnreadInput, IsUnreadQuery}
 use Rattle.diagnostics.specs.declared.fault.Fault.{Fault}
@@ -82,6 +84,9 @@ module _ {Q : Type 0} (left : Q → Option (List ℕ)) (q₀ q₁ : Watched Q) (
 
   pub format_unread : FormatsOnHanded left q₀ q₁ old old (Err e)
   format_unread = one_unread left q₀ q₁ (λ q f. FormatEnds q old old (Err f)) e (λ q. refl) (λ q. refl) h u
+
+  pub script_unread : (a : Arithmetic) → ScriptsOnHanded a left q₀ q₁ old old (Err e)
+  script_unread a = one_unread left q₀ q₁ (λ q f. ScriptEnds a q old old (Err f)) e (λ q. refl) (λ q. refl) h u
 
   pub graph_unread : (form : GraphForm) → GraphsOnHanded form left q₀ q₁ old old (Err e)
   graph_unread form = one_unread left q₀ q₁ (λ q f. GraphEnds form q old old (Err f)) e (λ q. refl) (λ q. refl) h u

@@ -1,9 +1,11 @@
 -- Where the texts of a line are: in files, and a query may stand on the line itself.
 use Rattle.std.specs.Prelude.{ℕ, Bool, true, false, cond, List, Option, Some, None}
 use Rattle.command_line.specs.declared.line_options.Options.{Options}
-use Rattle.command_line.specs.declared.line_options.Options.TheVariants.{Run, Follow, Check, Graph, Format, Replay, Explain}
+use Rattle.command_line.specs.declared.line_options.Options.TheVariants.{Run, Follow, Check, Graph, Format, Sql, Replay, Explain}
 use Rattle.command_line.specs.declared.query.Query.{Query}
 use Rattle.command_line.specs.declared.query.Query.TheVariants.{File, Inline}
+use Rattle.sql.specs.declared.scalar.Arithmetic.{Arithmetic}
+use Rattle.sql.specs.declared.scalar.Arithmetic.TheVariants.{Plain, Wrapped}
 
 -- the bytes of the text of each name, where they are known
 abbrev pub Known : Type 0
@@ -33,8 +35,14 @@ asks_inline (Follow query input workers end_mark explain) = on_line query
 asks_inline (Check query input heap explain) = on_line query
 asks_inline (Graph query form heap explain) = on_line query
 asks_inline (Format query explain) = on_line query
+asks_inline (Sql query wrapped explain) = on_line query
 asks_inline (Replay query schedule workers views explain) = on_line query
 asks_inline (Explain code) = false
+
+-- the arithmetic that the flag asks for
+abbrev pub arithmetic_asked : Bool → Arithmetic
+arithmetic_asked false = Plain
+arithmetic_asked true = Wrapped
 
 -- where the query of the options is found
 abbrev pub queries_of : Options → Known → Known

@@ -7,6 +7,7 @@ pub mod Runs
 pub mod Checks
 pub mod InputChecks
 pub mod Formats
+pub mod Scripts
 pub mod Replayed
 pub mod Followed
 pub mod Readings

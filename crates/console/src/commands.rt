@@ -3,9 +3,9 @@
 ghost use Rattle.std.specs.Prelude.{◌≡◌, [], None, option_map};
 ghost use Rattle.collector.specs.Watching.{inner_of};
 ghost use Rattle.console.specs.Asked.{known_inputs};
-ghost use Rattle.console.specs.Commands.{ChecksOn, FollowsOn, FormatsOn, GraphsOn, ReplaysOn, RunsOn};
+ghost use Rattle.console.specs.Commands.{ChecksOn, FollowsOn, FormatsOn, GraphsOn, ReplaysOn, RunsOn, ScriptsOn};
 ghost use Rattle.console.specs.Readings.{ChecksBothOnHanded, ChecksBothOver, ChecksOnHanded, ChecksOver, GraphsOnHanded, GraphsOver};
-ghost use Rattle.console.specs.Transcribed.{ChecksOnTexts, FollowsOnTexts, FormatsOnTexts, GraphsOnTexts, IsClosed, ReplaysOnTexts, RunsOnTexts, StartsSeveral};
+ghost use Rattle.console.specs.Transcribed.{ChecksOnTexts, FollowsOnTexts, FormatsOnTexts, GraphsOnTexts, IsClosed, ReplaysOnTexts, RunsOnTexts, ScriptsOnTexts, StartsSeveral};
 
 use crate::checking::check_query;
 use crate::following::follow_query;
@@ -15,11 +15,13 @@ use crate::input_check::check_input;
 use crate::replaying::replay_schedule;
 use crate::run_options::RunOptions;
 use crate::running::run;
+use crate::scripting::script_query;
 use crate::streams::Streams;
 use crate::transcripts::Transcripts;
 use bumpalo::Bump;
 use collector::{Opened, Sources, Watched, open_marked, open_named};
 use command_line::{GraphForm, HeapSize, Workers};
+use compile::Arithmetic;
 use diagnostics::{Fault, Texts};
 use linked_list_allocator::LocalHeap;
 use schedule::ViewKind;
@@ -373,6 +375,32 @@ pub fn format_named<'a, Q: Sources<'a>, W: Write>(
     let mut query = open_named(query.queries, query.name);
     let arena = Bump::new(alloc);
     let done = format_query(alloc, &arena, &mut query.text, &mut kept.texts, out);
+    kept.keep_query(query);
+    done
+}
+
+/// Writes a query's script of SQL.
+#[tactic(auto, using(crate::proofs::OpenedTexts::one_closed))]
+pub fn script_named<'a, Q: Sources<'a>, W: Write>(
+    alloc: Global,
+    arithmetic: Arithmetic,
+    query: Place<'a, '_, Q>,
+    out: &mut Watched<W>,
+    kept: &mut Kept<'a>,
+) -> Result<(), Fault>
+    ensures known { ScriptsOn (Q.content query.entry.queries.now) arithmetic query.entry.name.now (W.contents (inner_of out.old)) (W.contents (inner_of out.new)) result }
+    ensures read { ScriptsOnTexts (Q.content query.entry.queries.now) kept.new.transcripts arithmetic query.entry.name.now (W.contents (inner_of out.old)) (W.contents (inner_of out.new)) result }
+{
+    let mut query = open_named(query.queries, query.name);
+    let arena = Bump::new(alloc);
+    let done = script_query(
+        alloc,
+        &arena,
+        arithmetic,
+        &mut query.text,
+        &mut kept.texts,
+        out,
+    );
     kept.keep_query(query);
     done
 }

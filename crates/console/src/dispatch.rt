@@ -3,14 +3,14 @@
 ghost use Rattle.std.specs.Prelude.{◌≡◌, map, IfNone, IfSome};
 ghost use Rattle.collector.specs.Watching.{inner_of};
 ghost use Rattle.command_line.specs.Faults.{line_status_of};
-ghost use Rattle.console.specs.Asked.{asks_inline, on_line, queries_of, query_word};
+ghost use Rattle.console.specs.Asked.{arithmetic_asked, asks_inline, on_line, queries_of, query_word};
 ghost use Rattle.console.specs.Commands.{Answers, EndsOn, Obeys, status_after};
 ghost use Rattle.console.specs.Transcribed.{EndsOnRead};
 ghost use Rattle.console.specs.Views.{kind_asked};
 
 use crate::commands::{
     Kept, Place, Task, check_named, follow_named, format_named, graph_named, replay_named,
-    run_named,
+    run_named, script_named,
 };
 use crate::on_line::OnLine;
 use crate::streams::Streams;
@@ -18,7 +18,7 @@ use crate::transcripts::Transcripts;
 use bumpalo::Bump;
 use collector::{Sources, Watched};
 use command_line::{LineFault, Options, Query, options};
-use compile::warnings_of;
+use compile::{Arithmetic, warnings_of};
 use diagnostics::{
     Fault, Plain, TextNames, Texts, Word, explain_fault, row_of_word, write_explanation,
     write_path_hint, write_told, write_warnings,
@@ -39,6 +39,17 @@ fn view_kind(views: bool) -> ViewKind
         ViewKind::Local
     } else {
         ViewKind::Shared
+    }
+}
+
+/// The arithmetic of a script.
+fn arithmetic_of(wrapped: bool) -> Arithmetic
+    ensures { result ≡ arithmetic_asked wrapped }
+{
+    if wrapped {
+        Arithmetic::Wrapped
+    } else {
+        Arithmetic::Plain
     }
 }
 
@@ -72,6 +83,7 @@ fn is_inline(asked: Options<'_>) -> bool
         | Options::Check { query, .. }
         | Options::Graph { query, .. }
         | Options::Format { query, .. }
+        | Options::Sql { query, .. }
         | Options::Replay { query, .. } => is_on_line(query),
         Options::Explain { .. } => false,
     }
@@ -112,9 +124,9 @@ fn texts_of<'a>(asked: &Options<'a>) -> (&'a str, &'a str, bool) {
             explain,
             ..
         } => (shown_name(query), input.unwrap_or(""), explain),
-        Options::Graph { query, explain, .. } | Options::Format { query, explain } => {
-            (shown_name(query), "", explain)
-        }
+        Options::Graph { query, explain, .. }
+        | Options::Format { query, explain }
+        | Options::Sql { query, explain, .. } => (shown_name(query), "", explain),
         Options::Explain { .. } => ("", "", false),
     }
 }
@@ -241,6 +253,10 @@ fn answer_alone<'a, Q: Sources<'a>, S: Sources<'a>, W: Write>(
             let query = place_of(queries, query);
             Some(format_named(alloc, query, out, kept))
         }
+        Options::Sql { query, wrapped, .. } => {
+            let query = place_of(queries, query);
+            Some(script_named(alloc, arithmetic_of(wrapped), query, out, kept))
+        }
         Options::Explain { code } => match row_of_word(code) {
             Some(row) => Some(write_explanation(alloc, row, out)),
             None => None,
@@ -327,6 +343,7 @@ fn answer_asked<
         Options::Check { .. }
         | Options::Graph { .. }
         | Options::Format { .. }
+        | Options::Sql { .. }
         | Options::Explain { .. } => {
             answer_alone(alloc, queries, sources, asked, &mut streams.out, kept)
         }

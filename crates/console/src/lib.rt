@@ -9,6 +9,7 @@
 //! | `check_query`, `check_input` | a query, and an input too | the query's arities |
 //! | `graph_query` | a query | its graph, which crate `compile` makes |
 //! | `format_query` | a query | its canonical form |
+//! | `script_query` | a query | its script of SQL |
 //! | `replay_schedule` | a query and a schedule | what the schedule's lines print |
 //!
 //! The contract: where `run` answers Ok, what was written is the output text of what the query means on the epochs of the input text. It holds of
@@ -33,6 +34,7 @@ mod reading;
 mod replaying;
 mod run_options;
 mod running;
+mod scripting;
 mod streams;
 mod transcripts;
 mod writing;
@@ -40,7 +42,7 @@ mod writing;
 pub use checking::check_query;
 pub use collector::Sources;
 pub use command_line::{GraphForm, HeapSize, LineFault, Options, Query, Workers};
-pub use compile::{CompileFault, compile, law_one_graph};
+pub use compile::{Arithmetic, CompileFault, compile, law_one_graph};
 pub use diagnostics::{Fault, Texts};
 pub use disk::{Disk, DiskText};
 pub use dispatch::{answer, refuse};
@@ -54,5 +56,6 @@ pub use replaying::replay_schedule;
 pub use run_options::RunOptions;
 pub use running::run;
 pub use schedule::ViewKind;
+pub use scripting::script_query;
 pub use streams::Streams;
 pub use transcripts::Transcripts;

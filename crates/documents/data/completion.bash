@@ -3,7 +3,7 @@
 
 _loom() {
     local word=${COMP_WORDS[COMP_CWORD]} before=${COMP_WORDS[COMP_CWORD - 1]} words=
-    local commands="run follow replay check graph format explain help"
+    local commands="run follow replay check graph format sql explain help"
     if [ "$COMP_CWORD" -eq 1 ]; then
         words="$commands --build --version --help"
     elif [ "$before" = --workers ]; then
@@ -11,7 +11,7 @@ _loom() {
     elif [ "$before" = --heap ]; then
         words="64 4096 65536 1048576 16777216"
     elif [ "${COMP_WORDS[1]}" = explain ]; then
-        words="$(seq 1 6) $(seq 11 21) 23 $(seq 31 47) --help"
+        words="$(seq 1 6) $(seq 11 21) 23 24 $(seq 31 47) --help"
     elif [ "${COMP_WORDS[1]}" = help ]; then
         words=$commands
     elif [[ $word == -* ]]; then
@@ -22,6 +22,7 @@ _loom() {
         check) words="--heap --explain --inline --help" ;;
         graph) words="--dot --heap --explain --inline --help" ;;
         format) words="--explain --inline --help" ;;
+        sql) words="--wrapped --explain --inline --help" ;;
         esac
     else
         compopt -o filenames 2>/dev/null

@@ -6,7 +6,7 @@ ghost use Rattle.std.specs.List.{find};
 /// What a refusal means. Texts are UTF-8; a sentence of `text` is a line.
 #[derive(Clone, Copy, Debug, PartialEq, Eq)]
 pub struct Explanation {
-    /// Its number: 1 to 23 of queries, 31 to 40 of a schedule's steps, 41 to 47 of the lines of inputs, of which 43, 44 and 46 are of a
+    /// Its number: 1 to 24 of queries, 31 to 40 of a schedule's steps, 41 to 47 of the lines of inputs, of which 43, 44 and 46 are of a
     /// schedule's lines too.
     pub code: u8,
     /// What is wrong, in a phrase.
@@ -23,10 +23,10 @@ pub struct Explanation {
 }
 
 /// The numbers that refusals have, in words.
-pub const NUMBERS: &str = "1 to 6, 11 to 21, 23 and 31 to 47";
+pub const NUMBERS: &str = "1 to 6, 11 to 21, 23, 24 and 31 to 47";
 
 /// The refusals of a query, each code once, in ascending order.
-pub static OF_QUERIES: [Explanation; 18] = [
+pub static OF_QUERIES: [Explanation; 19] = [
     Explanation {
         code: 1,
         summary: "an unexpected character, a `#` without a number, or a `!` without `=`",
@@ -197,6 +197,15 @@ pub static OF_QUERIES: [Explanation; 18] = [
             output i = a; output j = a; output k = a; output l = a; output m = a; output n = a; output o = a; output p = a; output q = a;",
         right: "input a/1; output a = a; output b = a; output c = a; output d = a; output e = a; output f = a; output g = a; output h = a; \
             output i = a; output j = a; output k = a; output l = a; output m = a; output n = a; output o = a; output p = a;",
+    },
+    Explanation {
+        code: 24,
+        summary: "over 4096 tables of SQL",
+        place: "the name of the `let` or the output where they become too many",
+        text: "`loom sql` writes a table for each relation form, and a loop's tables again for each turn, at least one.\n\
+            Fewer turns help, and so does a `let` for a form that is written several times.",
+        wrong: "",
+        right: "",
     },
 ];
 

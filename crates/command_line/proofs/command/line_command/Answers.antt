@@ -18,5 +18,6 @@ returns c =
     let three = c.in_ok-subcommand-3.ensures.shape c.in_ok-check_command.ensures.local ∙ ap₂ with_subcommand two (ap top_of c.in_ok-check_command.ensures.app) in
     let four = c.in_ok-subcommand-4.ensures.shape c.in_ok-graph_command.ensures.local ∙ ap₂ with_subcommand three (ap top_of c.in_ok-graph_command.ensures.app) in
     let five = c.in_ok-subcommand-5.ensures.shape c.in_ok-format_command.ensures.local ∙ ap₂ with_subcommand four (ap top_of c.in_ok-format_command.ensures.app) in
-    let six = c.in_ok-subcommand-6.ensures.shape c.in_ok-replay_command.ensures.local ∙ ap₂ with_subcommand five (ap top_of c.in_ok-replay_command.ensures.app) in
-    IfOk-weaker c.subcommand-7.result _ _ (λ r h. h.shape c.in_ok-explain_command.ensures.local ∙ ap₂ with_subcommand six (ap top_of c.in_ok-explain_command.ensures.app)) c.subcommand-7.ensures
+    let six = c.in_ok-subcommand-6.ensures.shape c.in_ok-sql_command.ensures.local ∙ ap₂ with_subcommand five (ap top_of c.in_ok-sql_command.ensures.app) in
+    let seven = c.in_ok-subcommand-7.ensures.shape c.in_ok-replay_command.ensures.local ∙ ap₂ with_subcommand six (ap top_of c.in_ok-replay_command.ensures.app) in
+    IfOk-weaker c.subcommand-8.result _ _ (λ r h. h.shape c.in_ok-explain_command.ensures.local ∙ ap₂ with_subcommand seven (ap top_of c.in_ok-explain_command.ensures.app)) c.subcommand-8.ensures

@@ -1,0 +1,10 @@
+pub mod Names
+pub mod Made
+pub mod Texts
+pub mod Inputs
+pub mod Steps
+pub mod Operations
+pub mod Outputs
+pub mod Lets
+pub mod WidthsOfTables
+pub mod PartsOfScripts

@@ -1,0 +1,41 @@
+-- The parts of a program make its script.
+use Rattle.std.proofs.Common.{◌≡◌, ℕ, List, [], ◌++◌, codes, map, ap, ap₂, sym, ◌∙◌}
+use Rattle.expr_tree.specs.Plain.{plain_input, plain_program}
+use Rattle.expr_tree.specs.PlainLists.{plain_lets, plain_outputs}
+use Rattle.expr_tree.specs.Views.{program_tree}
+use Rattle.expr_tree.specs.declared.program.Program as declared_program
+use Rattle.sql_meaning.specs.Script.{Script, Table, Query}
+use Rattle.sql_meaning.specs.Translation.{Tables, Scope, after_lets, input_tables, script_of, written_outputs}
+use Rattle.sql_meaning.specs.WellFormed.{Widths}
+use Rattle.sql.specs.Shown.{Known, made_of, names_of, shown_script, shown_table}
+use Rattle.sql.specs.Text.{head_text, results_text, script_text, tables_text, widths_of}
+use Rattle.sql.specs.Widths.{AreWidths, width_in}
+use Rattle.sql.specs.declared.scalar.Arithmetic.{Arithmetic}
+use Rattle.sql.specs.declared.table.Script as declared_script
+use Rattle.sql.proofs.Texts.{four_texts}
+use Rattle.sql.specs.declared.table.Query as declared_query
+use Rattle.sql.specs.declared.table.Table as declared_table
+
+pub whole_script : {A : Type 0} (p : declared_program.Program A) (k l : Known) (m n : List (declared_query.Query A)) (rs : List declared_table.Table) →
+    names_of k ≡ input_tables (map plain_input p.inputs.items) 0 →
+    after_lets (plain_lets p.lets.items) (record { names = names_of k; tables = [] }) ≡ record { names = names_of l; tables = made_of m } →
+    (written_outputs (plain_outputs p.outputs.items) (names_of l) (made_of m)).tables ≡ made_of n →
+    map shown_table rs ≡ (written_outputs (plain_outputs p.outputs.items) (names_of l) (made_of m)).results →
+    (let s : Script = record { tables = made_of n; results = map shown_table rs } in s) ≡ script_of (plain_program (program_tree p))
+unfolding script_of
+whole_script p k l m n rs i e t r =
+    let script : List Query → List Table → Script = λ ts us. record { tables = ts; results = us } in
+    let outputs : Scope → Script = λ s. written_outputs (plain_outputs p.outputs.items) s.names s.tables in
+    let lets : Tables → Scope = λ names. after_lets (plain_lets p.lets.items) (record { names = names; tables = [] }) in
+    ap₂ script (sym t) r ∙ ap outputs (sym e) ∙ ap (λ names. outputs (lets names)) i
+
+-- the texts of the parts make the text of the script
+pub whole_text : {A : Type 0} (p : declared_program.Program A) (a : Arithmetic) (s : declared_script.Script A) (ws t1 t2 t3 t4 : List ℕ) → shown_script s ≡ script_of (plain_program (program_tree p)) →
+    AreWidths (map plain_input p.inputs.items) ws (made_of s.made.items) → t1 ≡ head_text a (map plain_input p.inputs.items) → t2 ≡ t1 ++ tables_text a (map plain_input p.inputs.items) (made_of s.made.items) →
+    t3 ≡ t2 ++ results_text (map plain_input p.inputs.items) (width_in (map plain_input p.inputs.items) ws) (map shown_table s.results.items) (plain_outputs p.outputs.items) → t4 ≡ t3 ++ codes "COMMIT;\n" →
+    t4 ≡ script_text a (plain_program (program_tree p))
+whole_text p a s ws t1 t2 t3 t4 e w h1 h2 h3 h4 =
+    let inputs = map plain_input p.inputs.items in
+    let outputs = plain_outputs p.outputs.items in
+    let text : Script → Widths → List ℕ = λ z v. head_text a inputs ++ (tables_text a inputs z.tables ++ (results_text inputs v z.results outputs ++ codes "COMMIT;\n")) in
+    four_texts [] t1 t2 t3 t4 (head_text a inputs) _ _ _ h1 h2 h3 h4 ∙ ap (text (shown_script s)) w.1 ∙ ap (λ (z : Script). text z (widths_of inputs z.tables)) e

@@ -1,0 +1,6 @@
+use Rattle.sql.proofs.Texts.{on_ok, two_texts}
+use Rattle.sql.proofs.query.push_query.Goals as goal
+
+pub returns-in_ok-push-in-Distinct : goal.returns-in_ok-push-in-Distinct
+returns-in_ok-push-in-Distinct g c =
+    rw c.in-Distinct.is (on_ok c.push_table.result (two_texts c.args.text.now.items _ _ _ _ c.in_ok-push-in-Distinct.ensures) c.push_table.ensures)

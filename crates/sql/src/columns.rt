@@ -1,0 +1,177 @@
+//! The text of columns, by their numbers.
+
+ghost use Rattle.std.specs.Prelude.{◌≡◌, ◌++◌, codes, map, OnOk};
+ghost use Rattle.expr_tree.specs.Plain.{plain_agg, plain_pair};
+ghost use Rattle.sql_meaning.specs.Translation.{aggregate_of};
+ghost use Rattle.sql.specs.Text.{aggregate_text, column_text, comma_text, continued, declared_text, joined, keys_text, numbered, pair_text, place_text, sum_close, sum_open};
+
+use crate::push::{push, push_column, push_number};
+use crate::scalar::Arithmetic;
+use expr_tree::{Agg, Column, Pair};
+use record_core::NoMemory;
+
+/// Appends columns, each after a comma.
+fn push_more_keys(text: &mut Vec<u8>, keys: &[Column]) -> Result<(), NoMemory>
+    ensures { OnOk result (text.new.items ≡ text.old.items ++ continued (codes ", ") (map column_text (map (λ k. k.index) keys.now))) }
+{
+    match keys {
+        [] => Ok(()),
+        [key, rest @ ..] => {
+            push(text, b", ")?;
+            push_column(text, key.index)?;
+            push_more_keys(text, rest)
+        }
+    }
+}
+
+/// Appends columns, with a comma between each two.
+pub fn push_keys(text: &mut Vec<u8>, keys: &[Column]) -> Result<(), NoMemory>
+    ensures { OnOk result (text.new.items ≡ text.old.items ++ keys_text (map (λ k. k.index) keys.now)) }
+{
+    match keys {
+        [] => Ok(()),
+        [key, rest @ ..] => {
+            push_column(text, key.index)?;
+            push_more_keys(text, rest)
+        }
+    }
+}
+
+/// Appends a pair of columns.
+fn push_pair(text: &mut Vec<u8>, pair: &Pair) -> Result<(), NoMemory>
+    ensures { OnOk result (text.new.items ≡ text.old.items ++ pair_text (plain_pair pair.now)) }
+{
+    push(text, b"l.")?;
+    push_column(text, pair.left.index)?;
+    push(text, b" = r.")?;
+    push_column(text, pair.right.index)
+}
+
+/// Appends pairs, each after an AND.
+fn push_more_pairs(text: &mut Vec<u8>, pairs: &[Pair]) -> Result<(), NoMemory>
+    ensures { OnOk result (text.new.items ≡ text.old.items ++ continued (codes " AND ") (map pair_text (map plain_pair pairs.now))) }
+{
+    match pairs {
+        [] => Ok(()),
+        [pair, rest @ ..] => {
+            push(text, b" AND ")?;
+            push_pair(text, pair)?;
+            push_more_pairs(text, rest)
+        }
+    }
+}
+
+/// Appends pairs, with an AND between each two.
+pub fn push_pairs(text: &mut Vec<u8>, pairs: &[Pair]) -> Result<(), NoMemory>
+    ensures { OnOk result (text.new.items ≡ text.old.items ++ joined (codes " AND ") (map pair_text (map plain_pair pairs.now))) }
+{
+    match pairs {
+        [] => Ok(()),
+        [pair, rest @ ..] => {
+            push_pair(text, pair)?;
+            push_more_pairs(text, rest)
+        }
+    }
+}
+
+/// Appends a column with what stands around it.
+fn push_around(text: &mut Vec<u8>, before: &[u8], column: u64, after: &[u8]) -> Result<(), NoMemory>
+    ensures { OnOk result (text.new.items ≡ text.old.items ++ (before.now ++ (column_text column ++ after.now))) }
+{
+    push(text, before)?;
+    push_column(text, column)?;
+    push(text, after)
+}
+
+/// Appends a sum.
+fn push_sum(text: &mut Vec<u8>, arithmetic: Arithmetic, column: u64) -> Result<(), NoMemory>
+    ensures { OnOk result (text.new.items ≡ text.old.items ++ (sum_open arithmetic ++ (column_text column ++ sum_close arithmetic))) }
+{
+    match arithmetic {
+        Arithmetic::Plain => push_around(text, b"CAST(SUM(", column, b") AS BIGINT)"),
+        Arithmetic::Wrapped => push_around(
+            text,
+            b"CAST(MOD(MOD(SUM(",
+            column,
+            b") + 9223372036854775808, 18446744073709551616) + 18446744073709551616, 18446744073709551616) - 9223372036854775808 AS BIGINT)",
+        ),
+    }
+}
+
+/// Appends an aggregate.
+fn push_aggregate(
+    text: &mut Vec<u8>,
+    arithmetic: Arithmetic,
+    aggregate: &Agg,
+) -> Result<(), NoMemory>
+    ensures { OnOk result (text.new.items ≡ text.old.items ++ aggregate_text arithmetic (aggregate_of (plain_agg aggregate.now))) }
+{
+    match aggregate {
+        Agg::Count(_) => push(text, b"COUNT(*)"),
+        Agg::Sum(_, column) => push_sum(text, arithmetic, column.index),
+        Agg::Min(_, column) => push_around(text, b"MIN(", column.index, b")"),
+        Agg::Max(_, column) => push_around(text, b"MAX(", column.index, b")"),
+    }
+}
+
+/// Appends aggregates, each after a comma.
+pub fn push_aggregates(
+    text: &mut Vec<u8>,
+    arithmetic: Arithmetic,
+    aggregates: &[Agg],
+) -> Result<(), NoMemory>
+    ensures { OnOk result (text.new.items ≡ text.old.items ++ continued (codes ", ") (map (aggregate_text arithmetic) (map aggregate_of (map plain_agg aggregates.now)))) }
+{
+    match aggregates {
+        [] => Ok(()),
+        [aggregate, rest @ ..] => {
+            push(text, b", ")?;
+            push_aggregate(text, arithmetic, aggregate)?;
+            push_aggregates(text, arithmetic, rest)
+        }
+    }
+}
+
+/// Appends a comma, unless it is for the first.
+fn push_comma(text: &mut Vec<u8>, number: u64) -> Result<(), NoMemory>
+    ensures { OnOk result (text.new.items ≡ text.old.items ++ comma_text number) }
+{
+    if number == 0 {
+        return Ok(());
+    }
+    push(text, b", ")
+}
+
+/// Appends the first columns' names.
+pub fn push_names(text: &mut Vec<u8>, count: u64) -> Result<(), NoMemory>
+    ensures { OnOk result (text.new.items ≡ text.old.items ++ numbered column_text count) }
+{
+    for i in 0..count {
+        push_comma(text, i)?;
+        push_column(text, i)?;
+    }
+    Ok(())
+}
+
+/// Appends the first columns as a table declares them.
+pub fn push_declared(text: &mut Vec<u8>, count: u64) -> Result<(), NoMemory>
+    ensures { OnOk result (text.new.items ≡ text.old.items ++ numbered declared_text count) }
+{
+    for i in 0..count {
+        push_comma(text, i)?;
+        push_column(text, i)?;
+        push(text, b" BIGINT NOT NULL")?;
+    }
+    Ok(())
+}
+
+/// Appends 1, 2 and so on, as many numbers as there are columns.
+pub fn push_places(text: &mut Vec<u8>, count: u64) -> Result<(), NoMemory>
+    ensures { OnOk result (text.new.items ≡ text.old.items ++ numbered place_text count) }
+{
+    for i in 0..count {
+        push_comma(text, i)?;
+        push_number(text, i + 1)?;
+    }
+    Ok(())
+}

@@ -1,0 +1,169 @@
+//! The text of queries.
+
+ghost use Rattle.std.specs.Prelude.{◌≡◌, ◌++◌, [], map, slice_index_or, OnOk};
+ghost use Rattle.expr_tree.specs.Plain.{plain_agg, plain_cond, plain_input, plain_pair};
+ghost use Rattle.expr_tree.specs.PlainLists.{plain_scalars};
+ghost use Rattle.expr_tree.specs.Views.{cond_tree};
+ghost use Rattle.sql_meaning.specs.Script as script;
+ghost use Rattle.sql_meaning.specs.Translation.{aggregate_of, expression, search};
+ghost use Rattle.sql.specs.Shown.{shown_query, shown_table};
+ghost use Rattle.sql.specs.Signs.{set_operator_text};
+ghost use Rattle.sql.specs.Text.{both_text, group_text, join_text, query_text, table_text};
+
+use crate::columns::{push_aggregates, push_keys, push_pairs};
+use crate::condition::push_cond;
+use crate::push::{push, push_number};
+use crate::scalar::{Arithmetic, push_scalars};
+use crate::table::{Query, Table};
+use expr_tree::{Agg, Column, Cond, Input, Pair, Scalar, SetOperator};
+use record_core::NoMemory;
+use std::alloc::Allocator;
+
+/// Appends a table's name.
+pub fn push_table(text: &mut Vec<u8>, inputs: &[Input], table: Table) -> Result<(), NoMemory>
+    ensures { OnOk result (text.new.items ≡ text.old.items ++ table_text (map plain_input inputs.now) (shown_table table)) }
+{
+    push(text, b"\"")?;
+    match table {
+        Table::Given(place) => push_input_name(text, inputs, place)?,
+        Table::Made(number) => push_number(text, number)?,
+    }
+    push(text, b"\"")
+}
+
+/// Appends an input's name, or nothing beyond the last.
+fn push_input_name(text: &mut Vec<u8>, inputs: &[Input], place: u64) -> Result<(), NoMemory>
+    ensures { OnOk result (text.new.items ≡ text.old.items ++ slice_index_or (map (λ a. a.name) (map plain_input inputs.now)) place []) }
+{
+    if place < inputs.len() as u64 {
+        return push(text, inputs[place as usize].name.bytes());
+    }
+    Ok(())
+}
+
+/// Appends the word of an operator of sets.
+fn push_set_operator(text: &mut Vec<u8>, operator: SetOperator) -> Result<(), NoMemory>
+    ensures { OnOk result (text.new.items ≡ text.old.items ++ set_operator_text operator) }
+{
+    match operator {
+        SetOperator::Concat => push(text, b" UNION ALL"),
+        SetOperator::Except => push(text, b" EXCEPT"),
+        SetOperator::Intersect => push(text, b" INTERSECT"),
+    }
+}
+
+/// Appends a select.
+fn push_select<A: Allocator>(
+    text: &mut Vec<u8>,
+    arithmetic: Arithmetic,
+    inputs: &[Input],
+    scalars: &[Scalar<A>],
+    from: Table,
+) -> Result<(), NoMemory>
+    ensures { OnOk result (text.new.items ≡ text.old.items ++ query_text arithmetic (map plain_input inputs.now)
+        (script.Query.select (map expression (plain_scalars scalars.now)) (shown_table from))) }
+{
+    push(text, b"SELECT ")?;
+    push_scalars(text, arithmetic, scalars)?;
+    push(text, b" FROM ")?;
+    push_table(text, inputs, from)
+}
+
+/// Appends a where.
+fn push_where<A: Allocator>(
+    text: &mut Vec<u8>,
+    arithmetic: Arithmetic,
+    inputs: &[Input],
+    from: Table,
+    condition: &Cond<A>,
+) -> Result<(), NoMemory>
+    ensures { OnOk result (text.new.items ≡ text.old.items ++ query_text arithmetic (map plain_input inputs.now)
+        (script.Query.select_where (shown_table from) (search (plain_cond (cond_tree condition.now))))) }
+{
+    push(text, b"SELECT * FROM ")?;
+    push_table(text, inputs, from)?;
+    push(text, b" WHERE ")?;
+    push_cond(text, arithmetic, condition)
+}
+
+/// Appends a join.
+fn push_join(
+    text: &mut Vec<u8>,
+    inputs: &[Input],
+    left: Table,
+    right: Table,
+    pairs: &[Pair],
+) -> Result<(), NoMemory>
+    ensures { OnOk result (text.new.items ≡ text.old.items ++ join_text (map plain_input inputs.now) (shown_table left) (shown_table right) (map plain_pair pairs.now)) }
+{
+    push(text, b"SELECT * FROM ")?;
+    push_table(text, inputs, left)?;
+    push(text, b" AS l INNER JOIN ")?;
+    push_table(text, inputs, right)?;
+    push(text, b" AS r ON ")?;
+    push_pairs(text, pairs)
+}
+
+/// Appends a group.
+fn push_group(
+    text: &mut Vec<u8>,
+    arithmetic: Arithmetic,
+    inputs: &[Input],
+    keys: &[Column],
+    aggregates: &[Agg],
+    from: Table,
+) -> Result<(), NoMemory>
+    ensures { OnOk result (text.new.items ≡ text.old.items ++ group_text arithmetic (map plain_input inputs.now)
+        (map (λ k. k.index) keys.now) (map aggregate_of (map plain_agg aggregates.now)) (shown_table from)) }
+{
+    push(text, b"SELECT ")?;
+    push_keys(text, keys)?;
+    push_aggregates(text, arithmetic, aggregates)?;
+    push(text, b" FROM ")?;
+    push_table(text, inputs, from)?;
+    push(text, b" GROUP BY ")?;
+    push_keys(text, keys)
+}
+
+/// Appends all rows of two tables under an operator of sets.
+fn push_both(
+    text: &mut Vec<u8>,
+    inputs: &[Input],
+    operator: SetOperator,
+    left: Table,
+    right: Table,
+) -> Result<(), NoMemory>
+    ensures { OnOk result (text.new.items ≡ text.old.items ++ both_text (map plain_input inputs.now) (set_operator_text operator) (shown_table left) (shown_table right)) }
+{
+    push(text, b"SELECT * FROM ")?;
+    push_table(text, inputs, left)?;
+    push_set_operator(text, operator)?;
+    push(text, b" SELECT * FROM ")?;
+    push_table(text, inputs, right)
+}
+
+/// Appends a query.
+pub fn push_query<A: Allocator>(
+    text: &mut Vec<u8>,
+    arithmetic: Arithmetic,
+    inputs: &[Input],
+    query: &Query<'_, A>,
+) -> Result<(), NoMemory>
+    ensures { OnOk result (text.new.items ≡ text.old.items ++ query_text arithmetic (map plain_input inputs.now) (shown_query query.now)) }
+{
+    match query {
+        Query::Select(scalars, from) => push_select(text, arithmetic, inputs, scalars, *from),
+        Query::Where(from, condition) => push_where(text, arithmetic, inputs, *from, condition),
+        Query::Join(left, right, pairs) => push_join(text, inputs, *left, *right, pairs),
+        Query::Group(keys, aggregates, from) => {
+            push_group(text, arithmetic, inputs, keys, aggregates, *from)
+        }
+        Query::Distinct(from) => {
+            push(text, b"SELECT DISTINCT * FROM ")?;
+            push_table(text, inputs, *from)
+        }
+        Query::SetOperation(operator, left, right) => {
+            push_both(text, inputs, *operator, *left, *right)
+        }
+    }
+}

@@ -1,0 +1,9 @@
+pub mod Script
+pub mod ScriptMeaning
+pub mod WellFormed
+pub mod Translation
+pub mod Range
+pub mod Count
+pub mod AnyOrder
+pub mod Remainder
+pub mod Plain

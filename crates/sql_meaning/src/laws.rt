@@ -1,0 +1,54 @@
+ghost use Rattle.std.specs.Prelude.{◌≡◌, ◌≤◌, [], List, ℕ, ℤ, map, length, slice_index_or};
+ghost use Rattle.std.specs.Int.{int_wrap};
+ghost use Rattle.std.specs.List.{AllByRecursion};
+ghost use mir.Syntax.{w64};
+ghost use Rattle.semantics.specs.Multiset.{Record, ◌≈◌};
+ghost use Rattle.semantics.specs.Meaning.{program_meaning, value};
+ghost use Rattle.semantics.specs.Query.{Scalar, Input, Program};
+ghost use Rattle.semantics.specs.Typing.{WellTyped};
+ghost use Rattle.sql_meaning.specs.AnyOrder.{MayAnswer};
+ghost use Rattle.sql_meaning.specs.Count.{program_count};
+ghost use Rattle.sql_meaning.specs.Plain.{plain, HasNoError};
+ghost use Rattle.sql_meaning.specs.Range.{IsRowOfWords, StaysModerate};
+ghost use Rattle.sql_meaning.specs.Remainder.{by_remainders};
+ghost use Rattle.sql_meaning.specs.Script.{Script};
+ghost use Rattle.sql_meaning.specs.ScriptMeaning.{answers, evaluated};
+ghost use Rattle.sql_meaning.specs.Translation.{expression, script_of, HaveWords};
+ghost use Rattle.sql_meaning.specs.WellFormed.{IsWellFormed};
+
+/// On tables of 64-bit numbers, one for each input, the script of a program gives at each output what the program means there.
+pub fn law_meaning()
+    ensures { (p : Program) (output : ℕ) (tables : List (List Record)) → length tables ≡ length p.inputs → AllByRecursion HaveWords tables →
+        slice_index_or (answers (script_of p) tables) output [] ≈ program_meaning p output (λ i. slice_index_or tables i []) }
+{}
+
+/// The script of a well-typed program is well formed on tables of the inputs' arities, and its results have the outputs' arities.
+pub fn law_well_formed()
+    ensures { (p : Program) (ns : List ℕ) → WellTyped p ns → IsWellFormed (map (λ (a : Input). a.arity) p.inputs) (script_of p) ns }
+{}
+
+/// A database that keeps the rows of each table in an order of its own still answers with the multisets that the script means.
+pub fn law_any_order()
+    ensures { (s : Script) (tables : List (List Record)) (output : ℕ) (rows : List Record) → MayAnswer s tables output rows →
+        rows ≈ slice_index_or (answers s tables) output [] }
+{}
+
+/// How many tables the script of a program has at most.
+pub fn law_count()
+    ensures { (p : Program) → length (script_of p).tables ≤ program_count p }
+{}
+
+/// On a row of 64-bit numbers no number of a written scalar is larger than 2^126, also on the way, so that 38 digits hold each.
+pub fn law_range()
+    ensures { (s : Scalar) (r : Record) → IsRowOfWords r → StaysModerate (expression s) r }
+{}
+
+/// Standard SQL's remainders give the wrapped number.
+pub fn law_wrapped()
+    ensures { (z : ℤ) → by_remainders z ≡ int_wrap w64 z }
+{}
+
+/// A scalar that is written without wrapping has its value wherever no operator is an error.
+pub fn law_plain()
+    ensures { (s : Scalar) (r : Record) → HasNoError (plain s) r → evaluated (plain s) r ≡ value s r }
+{}
