@@ -21,7 +21,6 @@ mod fault;
 mod formatting;
 mod input_check;
 mod laws;
-mod names;
 mod unused;
 mod warnings;
 

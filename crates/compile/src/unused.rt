@@ -10,9 +10,9 @@ ghost use Rattle.expr_tree.specs.Views.{let_tree, output_tree, program_tree, rel
 ghost use Rattle.normalise.specs.Reached.{Finds};
 ghost use Rattle.compile.specs.Unused.{AreUnused, idle_in_let, idle_in_output, idle_variable, idle_variables, unused_input, unused_let};
 
-use crate::names::{Names, add_free, add_free_in_outputs};
 use diagnostics::Unused;
 use expr_tree::{Input, Let, Output, Program, Rel};
+use normalise::{NameSet, add_free, add_free_in_outputs};
 use record_core::{Name, NoMemory, Span};
 use std::alloc::{Allocator, Global};
 
@@ -21,10 +21,10 @@ fn reached_names<A: Allocator>(
     alloc: Global,
     lets: &[Let<A>],
     outputs: &[Output<A>],
-) -> Result<Names, NoMemory>
+) -> Result<NameSet<Global>, NoMemory>
     ensures { IfOk result (λ names. Finds (contains same_name names) (plain_lets lets.now) (plain_outputs outputs.now)) }
 {
-    let mut names = Names::new(alloc);
+    let mut names = NameSet::new(alloc);
     add_free_in_outputs(&mut names, outputs)?;
     let mut left = lets.len();
     while left > 0 {
@@ -39,7 +39,11 @@ fn reached_names<A: Allocator>(
 
 /// The inputs that aren't among the names.
 #[tactic(auto, using(crate::proofs::OneMore::more))]
-fn unused_inputs(alloc: Global, inputs: &[Input], names: &Names) -> Result<Vec<Span>, NoMemory>
+fn unused_inputs(
+    alloc: Global,
+    inputs: &[Input],
+    names: &NameSet<Global>,
+) -> Result<Vec<Span>, NoMemory>
     ensures { IfOk result (λ places. places.items ≡ flat_map (unused_input (contains same_name names.now)) inputs.now) }
 {
     let mut places = Vec::new(alloc);
@@ -56,7 +60,7 @@ fn unused_inputs(alloc: Global, inputs: &[Input], names: &Names) -> Result<Vec<S
 fn unused_lets<A: Allocator>(
     alloc: Global,
     lets: &[Let<A>],
-    names: &Names,
+    names: &NameSet<Global>,
 ) -> Result<Vec<Span>, NoMemory>
     ensures { IfOk result (λ places. places.items ≡ flat_map (unused_let (contains same_name names.now)) (map let_tree lets.now)) }
 {
@@ -79,7 +83,7 @@ fn push_variable<A: Allocator>(
 ) -> Result<(), NoMemory>
     ensures { OnOk result (places.new.items ≡ places.old.items ++ idle_variable name.now (plain_rel (rel_tree body.now)) place) }
 {
-    let mut names = Names::new(alloc);
+    let mut names = NameSet::new(alloc);
     add_free(&mut names, body)?;
     if names.contains(name) {
         return Ok(());

@@ -4,8 +4,8 @@ use Rattle.semantics.specs.Graph.{Graph}
 use Rattle.semantics.specs.Could.{Pointstamp, IsTimeAt}
 use Rattle.machine.specs.Active.{one_if_same}
 use Rattle.machine.proofs.Active.{one_self, one_tells}
-use Rattle.progress.specs.Asked.{ArePossible, one_more, one_less}
-use Rattle.progress.specs.declared.change.Change.TheVariants.{Add, Remove, Ask}
+use Rattle.simple_trackers.specs.Asked.{ArePossible, one_more, one_less}
+use Rattle.simple_trackers.specs.declared.change.Change.TheVariants.{Add, Remove, Ask}
 
 pub possible_changes : (g : Graph) (content : Pointstamp → ℕ) (p q : Pointstamp) → IsTimeAt g p.location p.time → IsTimeAt g q.location q.time
     → ArePossible g content (Add p ∷ Add q ∷ Add q ∷ Ask q ∷ Ask p ∷ Remove p ∷ Ask q ∷ Remove q ∷ Ask q ∷ [])

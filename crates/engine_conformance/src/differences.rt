@@ -8,8 +8,9 @@ ghost use Rattle.progress.specs.Content.{times_at, times_in};
 use graph::{Location, VertexId};
 use loop_context::Time;
 use path_summary::{Paths, Pointstamp};
-use progress::{LocationTracker, PlainTracker, Progress};
+use progress::{LocationTracker, Progress};
 use record_core::NoMemory;
+use simple_trackers::PlainTracker;
 use std::alloc::Global;
 use std::sync::Arc;
 

@@ -11,9 +11,10 @@ use crate::times::pointstamp_of;
 use crate::turns::{Seen, direct_turns, late_turns};
 use pages::Subject;
 use path_summary::{Paths, Pointstamp};
-use progress::{Change, CountTracker, LocationTracker, PlainTracker, Progress, changes};
+use progress::{LocationTracker, Progress};
 use record_core::NoMemory;
 use rows::WorkFault;
+use simple_trackers::{Change, CountTracker, PlainTracker, changes};
 use std::alloc::{AllocError, Global};
 use std::sync::Arc;
 

@@ -1,5 +1,4 @@
 pub mod Batches
 pub mod EmittedOutputs
 pub mod WorkedOff
-pub mod Parts
 pub mod Tellings

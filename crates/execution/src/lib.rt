@@ -9,16 +9,14 @@
 //! | Call | What it does | Fails |
 //! |---|---|---|
 //! | `execute` | feeds the epochs to a new board, and runs it until nothing is left to do | `Unfinished`: no report |
-//! | `read_by_threads` | reads an input text, in parts side by side where it is long | the first faulty line, or memory |
 //! | `Parallelism::of` | how many threads and workers a run of the epochs has | never |
-//! | `ParallelSorter` | sorts and formats the records of an epoch, by several threads where there are many | memory |
 //! | `emitted` | what a report has emitted, by output and epoch | memory |
 //!
 //! If a count is too large at any worker, `execute` reports that before lack of memory.
 //!
 //! The contract for `console` above: the report that `execute` gives is of the board's graph, it is drained, and its inputs were fed what was
 //! read. The report keeps the promise of its board, so what was emitted at each output for each epoch is what the query means there. None of
-//! this depends on what the threads did: the report itself is checked. Below are `workers`, `alone`, `board`, `collector` and `sample_sort`,
+//! this depends on what the threads did: the report itself is checked. Below are `workers`, `alone`, `board` and `collector`,
 //! with what these use.
 #![tactic(auto)]
 
@@ -27,10 +25,8 @@ mod feeding;
 mod notice;
 mod outputs;
 mod parallelism;
-mod reading;
 mod readings;
 mod single;
-mod sorting;
 mod task;
 mod threads;
 mod unfinished;
@@ -39,7 +35,5 @@ mod watching;
 pub use executing::execute;
 pub use outputs::emitted;
 pub use parallelism::Parallelism;
-pub use reading::read_by_threads;
-pub use sorting::ParallelSorter;
 pub use unfinished::Unfinished;
 pub use watching::{Telling, Watcher};

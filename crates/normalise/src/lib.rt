@@ -6,6 +6,8 @@
 //! they use. Each rule looks at a node and what is right below it, and each use of a rule takes a node away; only scalars that take
 //! the place of a column are looked at again, where the select that they make meets a further one.
 //!
+//! `add_free` tells which names a relation takes from outside.
+//!
 //! It uses `typing`, whose typed queries are taken and given, `expr_tree`, `record_core`, and `semantics`, which says what the rules
 //! are. Lowering takes a `Typed`, normalised or not.
 #![tactic(auto)]
@@ -17,4 +19,5 @@ mod relation;
 mod replacement;
 mod scalars;
 
+pub use names::{NameSet, add_free, add_free_in_outputs};
 pub use program::normalise;

@@ -16,11 +16,11 @@ use std::collections::HashSet;
 use std::hash::{BuildHasherDefault, FoldHasher};
 
 /// A set of names in the allocator `A`.
-pub(crate) type Names<A> = HashSet<Name, BuildHasherDefault<FoldHasher>, A>;
+pub type NameSet<A> = HashSet<Name, BuildHasherDefault<FoldHasher>, A>;
 
-/// Adds the names that are free in the relation: a loop's variable isn't, in the loop's body.
-pub(crate) fn add_free<A: Allocator + Copy>(
-    names: &mut Names<A>,
+/// Adds the names that are free in the relation: a loop's variable isn't, in the loop's body. After a refusal some may have been added.
+pub fn add_free<A: Allocator, B: Allocator + Copy>(
+    names: &mut NameSet<B>,
     relation: &Rel<A>,
 ) -> Result<(), NoMemory>
     ensures { OnOk result (Adds (free (plain_rel (rel_tree relation.now))) (contains same_name names.new) (contains same_name names.old)) }
@@ -59,9 +59,9 @@ pub(crate) fn add_free<A: Allocator + Copy>(
     }
 }
 
-/// Adds the names that are free in the outputs.
-pub(crate) fn add_free_in_outputs<A: Allocator + Copy>(
-    names: &mut Names<A>,
+/// Adds the names that are free in the outputs. After a refusal some may have been added.
+pub fn add_free_in_outputs<A: Allocator, B: Allocator + Copy>(
+    names: &mut NameSet<B>,
     outputs: &[Output<A>],
 ) -> Result<(), NoMemory>
     ensures { OnOk result (Adds (free_in_outputs (plain_outputs outputs.now)) (contains same_name names.new) (contains same_name names.old)) }

@@ -14,7 +14,7 @@ ghost use Rattle.typing.specs.Shown.{output_arities, typed_program};
 ghost use Rattle.normalise.specs.Reached.{IsReachedOf};
 ghost use Rattle.normalise.specs.Rewritten.{IsRewrittenOutput};
 
-use crate::names::{Names, add_free, add_free_in_outputs};
+use crate::names::{NameSet, add_free, add_free_in_outputs};
 use crate::relation::{rewritten, rewritten_in_box};
 use expr_tree::{Let, Output, Program};
 use record_core::NoMemory;
@@ -51,7 +51,7 @@ fn reached_lets<A: Allocator + Copy>(
     ensures { IfOk result (λ kept. IsReachedOf (plain_lets kept.items) (plain_lets lets.items) (plain_outputs outputs.now)) }
 {
     let alloc = *lets.allocator();
-    let mut reached: Names<A> = Names::new(alloc);
+    let mut reached: NameSet<A> = NameSet::new(alloc);
     add_free_in_outputs(&mut reached, outputs)?;
     let mut kept = Vec::new(alloc);
     while let Some(item) = lets.pop() {

@@ -1,5 +1,5 @@
 -- Multisets of pointstamps, and what scans of them show.
-use Rattle.std.proofs.Common.{◌≡◌, ◌≢◌, ◌⊎◌, inl, inr, ℕ, zero, suc, ◌+◌, ◌≤◌, ◌<◌, Bool, true, false, List, [], ◌∷◌, ◌++◌, length, Some, slice_get, slice_index_or, refl, sym, ap, subst, ◌∙◌, arith}
+use Rattle.std.proofs.Common.{◌≡◌, ◌≢◌, ◌⊎◌, inl, inr, ℕ, zero, suc, ◌+◌, ◌≤◌, ◌<◌, Bool, true, false, List, [], ◌∷◌, ◌++◌, length, drop, Some, slice_get, slice_index_or, refl, sym, ap, subst, ◌∙◌, arith, add-one}
 use Rattle.std.specs.Prelude.{IsTrue, ◌↔◌, remove}
 use Rattle.std.proofs.lemmas.Bool.{true≢false}
 use Rattle.std.proofs.lemmas.Option.{slice_get_within, same_Some}
@@ -15,6 +15,16 @@ pub got_at : {X : Type 0} (xs : List X) (i : ℕ) (x : X) → i < length xs → 
 got_at [] i x h e = absurd (omega arith)
 got_at (y ∷ xs) zero x h e = ap (λ z. Some z) (sym e)
 got_at (y ∷ xs) (suc i) x h e = got_at xs i x (omega arith) e
+
+-- the item at a place, and those after it
+pub here_drop : {X : Type 0} (xs : List X) (n : ℕ) (x : X) → slice_get xs n ≡ Some x → drop n xs ≡ x ∷ drop (n + 1) xs
+here_drop {X} xs n x h = rw (add-one n) (go xs n h)
+  where
+    go : (xs : List X) (n : ℕ) → slice_get xs n ≡ Some x → drop n xs ≡ x ∷ drop (suc n) xs
+    go [] zero h = absurd (let e = h in cc)
+    go [] (suc n) h = absurd (let e = h in cc)
+    go (y ∷ xs) zero h = ap (λ (z : X). z ∷ xs) (same_Some y x h)
+    go (y ∷ xs) (suc n) h = go xs n h
 
 -- an element of a list occurs
 pub times_got : (xs : List Pointstamp) (i : ℕ) (q : Pointstamp) → slice_get xs i ≡ Some q → 0 < times_in xs q

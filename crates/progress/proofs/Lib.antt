@@ -4,5 +4,3 @@ pub mod Options
 pub mod Contents
 pub mod Earlier
 pub mod Places
-pub mod ChangesMade
-pub mod CountsKept

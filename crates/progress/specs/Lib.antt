@@ -6,6 +6,3 @@ pub mod Sifting
 pub mod Content
 pub mod Shown
 pub mod Kept
-pub mod Asked
-pub mod Counts
-pub mod ShownCounts

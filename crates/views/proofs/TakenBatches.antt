@@ -11,7 +11,7 @@ use Rattle.std.proofs.lemmas.Bool.Decides.{eqb_tells}
 use Rattle.std.proofs.lemmas.List.{get_or_default}
 use Rattle.std.proofs.Math.Seq.{drop-nil}
 use Rattle.progress.specs.Content.{times_in}
-use Rattle.progress.proofs.ChangesMade.{here_drop}
+use Rattle.progress.proofs.Contents.{here_drop}
 use Rattle.views.specs.Waiting.{batch}
 use Rattle.views.specs.Queued.{onto_first, batches_of, EndsFrom, AllKnown, as_changes, IsTaken, IsQueue}
 use Rattle.views.specs.declared.queue.Change.{Change}

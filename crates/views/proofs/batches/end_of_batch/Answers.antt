@@ -1,8 +1,7 @@
 use Rattle.std.proofs.Common.{◌≡◌, ◌∙◌, ◌∷◌, ◌+◌, drop, subst, ap, arith}
 use Rattle.views.specs.declared.queue.Change.{Change}
-use Rattle.progress.proofs.Contents.{got_at}
+use Rattle.progress.proofs.Contents.{got_at, here_drop}
 use Rattle.std.proofs.lemmas.List.{length-drop}
-use Rattle.progress.proofs.ChangesMade.{here_drop}
 use Rattle.views.proofs.TakenBatches.{IsTaking, begins, one_added, one_removed, ended}
 use Rattle.views.proofs.batches.end_of_batch.Goals as goal
 use Rattle.views.proofs.batches.end_of_batch.Goals.{in-Add, in-Remove}

@@ -1,10 +1,9 @@
 use Rattle.std.proofs.Common.{◌≡◌, ◌∙◌, ◌∷◌, ◌+◌, ◌<◌, List, Some, drop, subst, ap}
 use Rattle.graph.specs.Shown.{shown_graph}
-use Rattle.progress.proofs.Contents.{got_at}
+use Rattle.progress.proofs.Contents.{got_at, here_drop}
 use Rattle.views.specs.declared.queue.Change.{Change}
 use Rattle.views.specs.Queued.{removes_in}
 use Rattle.views.specs.Stale.{stale_count}
-use Rattle.progress.proofs.ChangesMade.{here_drop}
 use Rattle.views.proofs.TakenBatches.{removed_at}
 use Rattle.views.proofs.StaleCounts.{removal_passed}
 use Rattle.views.proofs.stale.is_blocked_by_one_of.Goals as goal

@@ -1,0 +1,2 @@
+mod ChangesMade
+mod CountsKept
