@@ -1,20 +1,66 @@
 //! The forms of relation, and the brackets that are open at the end of a beginning of a query.
 
+use crate::words::{Said, is_among, said_of};
+
 /// The most brackets that can be open.
 const HEIGHT: usize = 64;
 
 /// The forms, by the words before their brackets.
-pub const FORMS: [&[u8]; 10] = [
-    b"select",
-    b"where",
-    b"concat",
-    b"join",
-    b"group",
-    b"distinct",
-    b"except",
-    b"intersect",
-    b"iterate",
-    b"closure",
+pub const FORMS: [&str; 10] = [
+    "select",
+    "where",
+    "concat",
+    "join",
+    "group",
+    "distinct",
+    "except",
+    "intersect",
+    "iterate",
+    "closure",
+];
+
+/// How each form is written.
+static SHAPES: [Said; 10] = [
+    Said {
+        words: &["select"],
+        text: "the form is select(a; #0)",
+    },
+    Said {
+        words: &["where"],
+        text: "the form is where(a; #0 > 1)",
+    },
+    Said {
+        words: &["concat"],
+        text: "the form is concat(a, b)",
+    },
+    Said {
+        words: &["except"],
+        text: "the form is except(a, b)",
+    },
+    Said {
+        words: &["intersect"],
+        text: "the form is intersect(a, b)",
+    },
+    Said {
+        words: &["join"],
+        text: "the form is join(a, b; #0 = #0)",
+    },
+    Said {
+        words: &["group"],
+        text: "the form is group(a; #0; count)",
+    },
+    Said {
+        words: &["distinct"],
+        text: "the form is distinct(a)",
+    },
+    Said {
+        words: &["iterate"],
+        text: "the form is iterate(3; x = a; distinct(x))",
+    },
+    Said {
+        words: &["closure"],
+        text: "the form is closure(3; x = a; select(x; #0))",
+    },
 ];
 
 /// A round bracket that is open at the end of a beginning of a query.
@@ -47,24 +93,12 @@ pub fn last_word(text: &[u8]) -> &[u8] {
 
 /// Whether a word names a form.
 pub fn is_form(word: &[u8]) -> bool {
-    FORMS.iter().any(|form| *form == word)
+    is_among(&FORMS, word)
 }
 
 /// How the form with that name is written.
 pub fn shape_of(form: &[u8]) -> Option<&'static str> {
-    match form {
-        b"select" => Some("the form is select(a; #0)"),
-        b"where" => Some("the form is where(a; #0 > 1)"),
-        b"concat" => Some("the form is concat(a, b)"),
-        b"except" => Some("the form is except(a, b)"),
-        b"intersect" => Some("the form is intersect(a, b)"),
-        b"join" => Some("the form is join(a, b; #0 = #0)"),
-        b"group" => Some("the form is group(a; #0; count)"),
-        b"distinct" => Some("the form is distinct(a)"),
-        b"iterate" => Some("the form is iterate(3; x = a; distinct(x))"),
-        b"closure" => Some("the form is closure(3; x = a; select(x; #0))"),
-        _ => None,
-    }
+    said_of(&SHAPES, form)
 }
 
 /// The last round bracket that isn't closed.

@@ -115,25 +115,45 @@ impl fmt::Display for Expected {
     }
 }
 
+/// Why a text is no query, if it isn't one.
+fn refusal_of(alloc: Global, text: &[u8]) -> Option<Refusal> {
+    let arena = Bump::new(alloc);
+    parse(&arena, text).err()
+}
+
 /// Whether a beginning of a query can be followed by a word: whether no text that goes on so is refused for the order of words there.
 fn follows(alloc: Global, before: &[u8], word: &str) -> Result<bool, AllocError> {
     let mut text = before.to_vec(alloc)?;
     text.push(b' ')?;
     text.extend_from_slice(word.as_bytes())?;
-    let arena = Bump::new(alloc);
-    match parse(&arena, text.as_slice()) {
-        Ok(_) => Ok(true),
-        Err(Refusal::NoMemory) => Err(AllocError),
-        Err(Refusal::At { code, span }) => {
+    match refusal_of(alloc, text.as_slice()) {
+        None => Ok(true),
+        Some(Refusal::NoMemory) => Err(AllocError),
+        Some(Refusal::At { code, span }) => {
             Ok(code != UNEXPECTED || span.start as usize != before.len().saturating_add(1))
         }
     }
 }
 
-/// Whether a text is a query.
-fn is_query(alloc: Global, text: &[u8]) -> bool {
-    let arena = Bump::new(alloc);
-    parse(&arena, text).is_ok()
+/// The words that can come after a beginning of a query.
+fn following(alloc: Global, before: &[u8]) -> Result<Vec<&'static str>, AllocError> {
+    let mut words = Vec::new(alloc);
+    for word in WORDS {
+        if follows(alloc, before, word)? {
+            words.push(word)?;
+        }
+    }
+    Ok(words)
+}
+
+/// Whether some words are all there.
+fn has_all(words: &[&'static str], some: &[&'static str]) -> bool {
+    for word in some {
+        if !words.contains(word) {
+            return false;
+        }
+    }
+    true
 }
 
 /// The words without some of them.
@@ -161,25 +181,30 @@ fn alone(word: &'static str) -> Expected {
     }
 }
 
+/// Takes the words of each kind of which all are there, and notes its name.
+fn take_kinds(
+    alloc: Global,
+    words: &mut Vec<&'static str>,
+    found: &mut Vec<Expected>,
+) -> Result<(), AllocError> {
+    for kind in &KINDS {
+        if has_all(words.as_slice(), kind.words) {
+            found.push(Expected::Kind(kind.name))?;
+            *words = without(alloc, words.as_slice(), kind.words)?;
+        }
+    }
+    Ok(())
+}
+
 /// What can come after a beginning of a query.
 fn possible_words(alloc: Global, before: &[u8]) -> Result<Vec<Expected>, AllocError> {
-    let mut words = Vec::new(alloc);
-    for word in WORDS {
-        if follows(alloc, before, word)? {
-            words.push(word)?;
-        }
-    }
+    let mut words = following(alloc, before)?;
     let mut found = Vec::new(alloc);
-    for kind in &KINDS {
-        if kind.words.iter().all(|word| words.contains(word)) {
-            found.push(Expected::Kind(kind.name))?;
-            words = without(alloc, words.as_slice(), kind.words)?;
-        }
-    }
+    take_kinds(alloc, &mut words, &mut found)?;
     for word in words.iter() {
         found.push(alone(word))?;
     }
-    if is_query(alloc, before) {
+    if refusal_of(alloc, before).is_none() {
         found.push(Expected::Kind("the end of the query"))?;
     }
     Ok(found)

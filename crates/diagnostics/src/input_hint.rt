@@ -59,20 +59,39 @@ pub fn of_gap(first: &[u8]) -> &'static str {
     }
 }
 
+/// Whether a word begins as a comment does elsewhere.
+fn is_comment(word: &[u8]) -> bool {
+    matches!(
+        word,
+        [b'#', ..] | [b'-', b'-', ..] | [b'/', b'/' | b'*', ..]
+    )
+}
+
 /// The hint for a line's first word, if it is no name.
 pub fn of_first(word: &[u8]) -> Option<&'static str> {
-    match (word, of_separator(word)) {
-        ([0xef, 0xbb, 0xbf, ..], _) => Some("the text begins with a byte order mark; remove it"),
-        _ if is_compressed(word) => Some(COMPRESSED),
-        ([.., b'\r'], _) => Some(CARRIAGE_RETURN),
-        ([b'#', ..] | [b'-', b'-', ..] | [b'/', b'/' | b'*', ..], _) => {
-            Some("there are no comments")
-        }
-        (_, Some(hint)) => Some(hint),
-        ([b'0'..=b'9' | b'-' | b'+', ..], _) => Some("a record begins with the name of its input"),
-        _ if word.eq_ignore_ascii_case(b"epoch") => Some("epoch is in lower case"),
-        _ if word.len() > 32 => Some("a name has at most 32 bytes"),
-        _ => Some("a name has lower-case letters, digits and _"),
+    if word.starts_with(b"\xef\xbb\xbf") {
+        Some("the text begins with a byte order mark; remove it")
+    } else if is_compressed(word) {
+        Some(COMPRESSED)
+    } else if word.ends_with(b"\r") {
+        Some(CARRIAGE_RETURN)
+    } else if is_comment(word) {
+        Some("there are no comments")
+    } else {
+        of_separator(word).or(Some(of_letters(word)))
+    }
+}
+
+/// The hint for a line's first word whose letters make it no name.
+fn of_letters(word: &[u8]) -> &'static str {
+    if matches!(word, [b'0'..=b'9' | b'-' | b'+', ..]) {
+        "a record begins with the name of its input"
+    } else if word.eq_ignore_ascii_case(b"epoch") {
+        "epoch is in lower case"
+    } else if word.len() > 32 {
+        "a name has at most 32 bytes"
+    } else {
+        "a name has lower-case letters, digits and _"
     }
 }
 

@@ -27,6 +27,7 @@ mod read_texts;
 mod reason;
 mod schedule_fault;
 mod warnings;
+mod words;
 
 pub use display::{Plain, Word};
 pub use explain::{TextNames, explain_fault};

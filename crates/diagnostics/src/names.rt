@@ -2,6 +2,7 @@
 
 use crate::bracket::{FORMS, is_form, shape_of, split_word};
 use crate::display::Word;
+use crate::words::is_among;
 use bumpalo::Bump;
 use expr_tree::Program;
 use parser::parse;
@@ -149,7 +150,7 @@ pub fn write_unknown<W: Write>(
 pub fn form_name(before: &[u8]) -> Option<&[u8]> {
     let (front, word) = split_word(before);
     let (_, first) = split_word(front);
-    let is_declared = matches!(first, b"input" | b"let");
+    let is_declared = is_among(&["input", "let"], first);
     match word {
         [b'a'..=b'z', ..] if Keyword::of(word).is_none() && !is_form(word) && !is_declared => {
             Some(word)
@@ -161,9 +162,9 @@ pub fn form_name(before: &[u8]) -> Option<&[u8]> {
 /// Writes that a word names no form, and which form is meant.
 pub fn write_no_form<W: Write>(word: &[u8], writer: &mut W) -> io::Result<()> {
     let shown = Word(word);
-    match FORMS.iter().find(|form| is_like(form, word)) {
+    match FORMS.iter().find(|form| is_like(form.as_bytes(), word)) {
         Some(form) => {
-            let form = Word(form);
+            let form = Word(form.as_bytes());
             writeln!(writer, "{shown} is not a form; did you mean {form}?")
         }
         None => writeln!(

@@ -1,11 +1,12 @@
 //! States by time.
 
-ghost use Rattle.std.specs.Prelude.{◌≡◌, cond, None};
+ghost use Rattle.std.specs.Prelude.{◌≡◌, cond, None, OnOk, Some};
 ghost use Rattle.indexmap.specs.IndexMap.{get};
 ghost use Rattle.semantics.specs.Time.{Time as TimeShown, same_time};
 
 use indexmap::IndexMap;
 use loop_context::{MAX_LOOPS, Time};
+use record_core::NoMemory;
 
 /// With more states than this, some are of times that had passed, but weren't seen to have.
 const FEW: usize = 4;
@@ -26,6 +27,18 @@ pub(crate) fn earlier<S: Drop>(times: &IndexMap<Time, S>, now: &Time) -> Option<
         Some((time, _)) => Some(time.copied()),
         None => None,
     }
+}
+
+/// Keeps a state for a time that has none.
+pub(crate) fn put<S: Drop>(
+    times: &mut IndexMap<Time, S>,
+    time: &Time,
+    state: S,
+) -> Result<(), NoMemory>
+    ensures { OnOk result ((t : TimeShown) → get same_time times.new t ≡ cond (same_time time.now t) (Some state) (get same_time times.old t)) }
+{
+    times.insert(time.copied(), state)?;
+    Ok(())
 }
 
 /// Lets go of the state of a time, and gives it, if there is one. Takes constant time.

@@ -14,7 +14,7 @@ ghost use Rattle.vertices.specs.Groups.{AreGroupRecords, columns_of, group_recor
 ghost use Rattle.vertices.specs.Piles.{IsPileThen};
 ghost use Rattle.rows.specs.declared.fault.WorkFault.TheVariants as fault;
 
-use crate::by_time::{earlier, forget};
+use crate::by_time::{earlier, forget, put};
 use crate::groups::{Groups, key_arity};
 use crate::pile::Pile;
 use indexmap::IndexMap;
@@ -90,7 +90,7 @@ impl GroupShard {
         if let Err(error) = absorb(&mut pile, batch) {
             return Err(error);
         }
-        self.times.insert(time.copied(), pile)?;
+        put(&mut self.times, time, pile)?;
         Ok(true)
     }
 
@@ -125,6 +125,7 @@ impl GroupShard {
         let rows = groups.finished(alloc, &self.operator)?;
         Ok(rows)
     }
+
     /// A time of which it keeps something, and that may have passed when something comes at `now`.
     pub(crate) fn earlier(&self, now: &Time) -> Option<Time> {
         earlier(&self.times, now)

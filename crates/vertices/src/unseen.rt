@@ -15,6 +15,7 @@ ghost use Rattle.vertices.specs.LoopRows.{IsLoopOf, by_turn};
 ghost use Rattle.vertices.specs.Unseen.{IsUnseenOf};
 ghost use Rattle.rows.specs.declared.fault.WorkFault.TheVariants.{Count, NoMemory};
 
+use crate::by_time::put;
 use crate::except::ExceptShard;
 use crate::loop_rows::LoopRows;
 use indexmap::IndexMap;
@@ -92,7 +93,7 @@ impl UnseenShard {
         }
         let mut kept = LoopRows::new(alloc, self.came.arity)?;
         kept.absorb(alloc, turn, batch)?;
-        self.loops.insert(outside, kept)?;
+        put(&mut self.loops, &outside, kept)?;
         Ok(())
     }
 

@@ -35,9 +35,9 @@ returns-clause-loops c =
     let u = c.leave-outside.result in
     let kept : (t : Time) → get same_time c.get_mut.follows.lender-at-none t ≡ get same_time c.args.self.now.loops t = λ t. search rules in
     λ a h.
-    subst (AreStatesOf (IsLoopOf n) c.insert.new.self)
+    subst (AreStatesOf (IsLoopOf n) c.put.new.times)
     (sym (turn_more a c.args.time.now c.args.batch.now c.requires.depth ∙ (λ j. with_records (by_turn a) (sym c.last_counter-turn.ensures j) (sym c.leave-outside.ensures j) c.args.batch.now)))
-    (states_more c.args.self.now.loops c.insert.new.self u c.absorb-2.new.self
-    (λ t. c.in_ok-insert.ensures.updates.0 t ∙ (λ j. cond (same_time u t) (Some c.absorb-2.new.self) (kept t j)))
+    (states_more c.args.self.now.loops c.put.new.times u c.absorb-2.new.self
+    (λ t. c.in_ok-put.ensures t ∙ (λ j. cond (same_time u t) (Some c.absorb-2.new.self) (kept t j)))
     (IsLoopOf n) (by_turn a) c.last_counter-turn.result c.args.batch.now h
     (c.in_ok-absorb-2.ensures n (λ k. by_turn a k u) (so_of_none c.args.self.now.loops u (IsLoopOf n) (by_turn a) (IsLoopOf n c.in_ok-kept.kept) (search rules) h c.in_ok-kept.ensures)))
