@@ -1,5 +1,5 @@
 # Completes the words after `loom` or `./loom` in bash, from its commands, options and numbers, and else from the files that there are.
-# Use: source docs/completion.bash
+# Use: source completion.bash
 
 _loom() {
     local word=${COMP_WORDS[COMP_CWORD]} before=${COMP_WORDS[COMP_CWORD - 1]} words=

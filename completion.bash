@@ -1,0 +1,1 @@
+crates/documents/data/completion.bash

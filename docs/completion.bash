@@ -1,1 +1,0 @@
-../crates/documents/data/completion.bash
