@@ -26,6 +26,7 @@ use std::alloc::Global;
 use std::io::{Read, Write};
 use std::sync::Wait;
 use std::thread::Threads;
+use workers::NoGate;
 
 /// Where a query is found, and its name there.
 #[derive(Clone, Copy)]
@@ -116,6 +117,7 @@ pub fn run_named<
     let mut input = open_named(sources, task.input);
     let options = RunOptions {
         workers: task.workers,
+        gate: &NoGate,
         stats,
     };
     let done = run(

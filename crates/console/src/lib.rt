@@ -19,6 +19,7 @@
 
 mod checking;
 mod commands;
+mod counting;
 mod disk;
 mod dispatch;
 mod fault;
@@ -56,3 +57,4 @@ pub use running::run;
 pub use schedule::ViewKind;
 pub use streams::Streams;
 pub use transcripts::Transcripts;
+pub use workers::{Gate, NoGate};
