@@ -19,6 +19,7 @@ pub mod Ending
 pub mod Keeping
 pub mod Committed
 pub mod BoardCalls
+pub mod Telling
 pub mod Ready
 pub mod Handing
 pub mod Worlds

@@ -11,6 +11,7 @@ pub mod Fitting
 pub mod Kept
 pub mod Reached
 pub mod Commits
+pub mod Counting
 pub mod Claims
 pub mod Deliverable
 pub mod Answers

@@ -18,6 +18,7 @@ ghost use Rattle.board.specs.Forgetting.{KeepsLess};
 ghost use Rattle.board.specs.Merging.{AreAlike, window};
 ghost use Rattle.board.specs.Overflow.{DoesOverflow, NeverOverflows};
 ghost use Rattle.board.specs.Commits.{IsOf};
+ghost use Rattle.board.specs.Counting.{TellsCommit};
 ghost use Rattle.events.specs.Jobs.{Pass};
 ghost use Rattle.events.specs.TooMany.{CountsFit, CountsOver};
 ghost use Rattle.tokens.specs.declared.rule.Place.TheVariants.{Home};
@@ -625,6 +626,7 @@ impl<V: Views> Board<V> {
     pub fn commit(&mut self, done: Done) -> Result<Sent, CommitRefusal>
         requires { IsOf self.old.shown done }
         ensures commits { Commits self.old.shown self.new.shown done result }
+        ensures tells { IfOk result (λ sent. TellsCommit self.old.shown self.new.shown done sent) }
         ensures tables { tables self.new.shown ≡ tables self.old.shown }
         ensures refused { OnErr result (self.new ≡ self.old) }
         ensures posts { OnOk result (Posts V.late done.worker self.old self.new) }

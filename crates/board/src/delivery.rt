@@ -170,6 +170,7 @@ pub fn finish(
         sent,
         asked,
         emitted: _,
+        received: _,
     } = output;
     note_request(added, &asked);
     note_letters(added, &sent);

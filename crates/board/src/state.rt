@@ -11,6 +11,7 @@ ghost use Rattle.graph.specs.Shown.{shown_graph};
 ghost use Rattle.graph.specs.Limits.{max_vertices};
 ghost use Rattle.board.specs.Answers.{input_refusal};
 ghost use Rattle.board.specs.Commits.{FeedsBy, IsOf, SettlesBy};
+ghost use Rattle.board.specs.Counting.{TellsCommit};
 ghost use Rattle.board.specs.WorkerShown.{is_out};
 ghost use Rattle.board.specs.Forgetting.{ForgetsAt, MayForget};
 ghost use Rattle.board.specs.Fresh.{IsNew};
@@ -525,6 +526,7 @@ impl State {
         requires own { IsOf self.old done }
         requires kept { IsKept (V.graph views.old) (V.content views.old) self.old }
         ensures settles { IfOk result (λ ended. SettlesBy self.old self.new added.new.items ended.0 done) }
+        ensures tells { IfOk result (λ ended. TellsCommit self.old self.new done ended.1) }
         ensures room { OnOk result (length added.new.items + 1 + input_count (shown_graph self.old.graph) ≤ V.room views.new) }
         ensures same { OnErr result (self.new ≡ self.old) }
         ensures back { IfErr result (λ back. back ≡ done) }
@@ -551,7 +553,8 @@ impl State {
         let epoch = output.place.time().epoch();
         match emit(&mut self.emitted, vertex, epoch, output) {
             Ok(output) => {
-                let sent = Sent::of(&output.sent);
+                let sends = Sent::of(&output.sent);
+                let sent = sends.of_event(number, vertex, output.received);
                 let place = finish(&mut self.workers, added, worker, vertex, stub, output);
                 Ok((place, sent))
             }
@@ -587,6 +590,7 @@ fn emit(emitted: &mut Emitted, vertex: usize, epoch: u32, output: Output) -> Res
         sent,
         asked,
         emitted: batch,
+        received,
     } = output;
     match emitted.add_some(vertex, epoch, batch) {
         Ok(()) => Ok(Output {
@@ -597,6 +601,7 @@ fn emit(emitted: &mut Emitted, vertex: usize, epoch: u32, output: Output) -> Res
             sent,
             asked,
             emitted: None,
+            received,
         }),
         Err(batch) => Err(Output {
             place,
@@ -606,6 +611,7 @@ fn emit(emitted: &mut Emitted, vertex: usize, epoch: u32, output: Output) -> Res
             sent,
             asked,
             emitted: batch,
+            received,
         }),
     }
 }

@@ -2,7 +2,7 @@
 
 use crate::unwatched::unwatched;
 use collector::Watched;
-use console::{RunOptions, Streams, Texts, Workers, run};
+use console::{NoGate, RunOptions, Streams, Texts, Workers, run};
 use std::io::Write;
 use std::sync::Wait;
 use std::test::Fail;
@@ -23,6 +23,7 @@ fn copied(
     let mut streams = unwatched(rt.alloc(), Vec::new(rt.alloc()));
     let options = RunOptions {
         workers: Workers::new(2).ok_or("no workers")?,
+        gate: &NoGate,
         stats: None,
     };
     run(

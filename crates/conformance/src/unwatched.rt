@@ -1,14 +1,15 @@
 //! Runs that nobody watches.
 
 use collector::Watched;
-use console::{RunOptions, Streams, Watcher, Workers};
+use console::{NoGate, RunOptions, Streams, Watcher, Workers};
 use std::alloc::Global;
 use std::io::Write;
 
-/// A run on one worker, with no report of what each vertex did.
-pub fn on_one() -> RunOptions {
+/// A run on one worker, with no gate and no report of what each vertex did.
+pub fn on_one() -> RunOptions<'static, NoGate> {
     RunOptions {
         workers: Workers::one(),
+        gate: &NoGate,
         stats: None,
     }
 }

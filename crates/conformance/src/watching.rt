@@ -1,7 +1,7 @@
 //! Runs on several workers, and what is reported of them while they work.
 
 use collector::Watched;
-use console::{GraphForm, RunOptions, Streams, Telling, Texts, Watcher, Workers, run};
+use console::{GraphForm, NoGate, RunOptions, Streams, Telling, Texts, Watcher, Workers, run};
 use std::io;
 use std::io::{ErrorKind, Write};
 use std::sync::Wait;
@@ -34,6 +34,7 @@ fn copy<O: Write + Send + Drop, E: Write>(
     let mut texts = Texts::new(rt.alloc());
     let options = RunOptions {
         workers: Workers::new(2).ok_or("no workers")?,
+        gate: &NoGate,
         stats: Some(GraphForm::Lines),
     };
     run(

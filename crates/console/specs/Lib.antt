@@ -15,3 +15,4 @@ pub mod Views
 pub mod Transcribed
 pub mod Commands
 pub mod Disk
+pub mod Reported

@@ -29,6 +29,7 @@ use std::alloc::Global;
 use std::io::{Read, Write};
 use std::sync::Wait;
 use std::thread::Threads;
+use workers::NoGate;
 
 /// Where a query is found, and its name there.
 #[derive(Clone, Copy)]
@@ -121,6 +122,7 @@ pub fn run_named<
     let mut input = open_marked(sources, task.input, task.end_mark);
     let options = RunOptions {
         workers: task.workers,
+        gate: &NoGate,
         stats,
     };
     let done = run(

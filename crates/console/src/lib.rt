@@ -20,6 +20,7 @@
 
 mod checking;
 mod commands;
+mod counting;
 mod disk;
 mod dispatch;
 mod fault;
@@ -59,3 +60,4 @@ pub use schedule::ViewKind;
 pub use scripting::script_query;
 pub use streams::Streams;
 pub use transcripts::Transcripts;
+pub use workers::{Gate, NoGate};

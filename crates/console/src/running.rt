@@ -9,6 +9,7 @@ ghost use Rattle.compile.specs.Compiled.{IsCompiled, IsQueryFault};
 ghost use Rattle.command_line.specs.Counts.{count_of};
 ghost use Rattle.console.specs.Heeded.{Heeds};
 ghost use Rattle.console.specs.Readings.{HeedsOver, KeepsInput, KeepsQuery, RunsOnHanded, RunsOver};
+ghost use Rattle.console.specs.Reported.{ReportsOver};
 ghost use Rattle.console.specs.Runs.{Ends, IsAfterReading};
 ghost use Rattle.diagnostics.specs.declared.fault.Fault.TheVariants as fault;
 
@@ -27,6 +28,7 @@ use std::alloc::Global;
 use std::io::{Read, Write};
 use std::sync::Wait;
 use std::thread::Threads;
+use workers::Gate;
 
 /// The graph of a query text; its tree is gone.
 pub fn graph_of_text(alloc: Global, query: &[u8]) -> Result<Graph, Fault>
@@ -56,10 +58,16 @@ fn epochs_of_text<R: Threads + Sync>(
 }
 
 /// Answers a query text over an input text.
-fn answer<R: Threads + Wait + Sync, W: Write, O: Write + Send + Drop, E: Write>(
+fn answer<
+    R: Threads + Wait + Sync,
+    G: Gate + Sync,
+    W: Write,
+    O: Write + Send + Drop,
+    E: Write,
+>(
     rt: &R,
     alloc: Global,
-    options: RunOptions,
+    options: RunOptions<'_, G>,
     query: &[u8],
     input: &[u8],
     streams: &mut Streams<W, E, O>,
@@ -67,8 +75,9 @@ fn answer<R: Threads + Wait + Sync, W: Write, O: Write + Send + Drop, E: Write>(
     ensures ends { Ends query.now input.now (W.contents (inner_of streams.old.out)) (W.contents (inner_of streams.new.out)) result }
     ensures heeds { Heeds query.now (W.contents (inner_of streams.old.out)) (W.contents (inner_of streams.new.out)) result }
     ensures failed { IsErrOf result fault.Write → has_failed streams.new.out ≡ true }
-    ensures several { IsErrOf result fault.NoWorker → 1 < count_of options.workers }
+    ensures several { IsErrOf result fault.NoWorker → 1 < count_of options.entry.workers }
     ensures read { IfErr result IsAfterReading }
+    ensures counts { ReportsOver options.entry.stats query.now input.now (E.contents streams.old.err) (E.contents streams.new.err) }
 {
     let graph = match graph_of_text(alloc, query) {
         Ok(graph) => graph,
@@ -81,7 +90,7 @@ fn answer<R: Threads + Wait + Sync, W: Write, O: Write + Send + Drop, E: Write>(
     respond(rt, alloc, options, graph, &epochs, streams)
 }
 
-/// Reads a query and its input, and writes the answer. Its promise holds if it ends.
+/// Reads a query and its input, and writes the answer. Its promise holds if it ends. The gate computes each event; the program's is `NoGate`.
 ///
 /// Faults are reported in this order: the query can't be read, the input can't be read, the query is refused, the input is refused, a count
 /// is too large, the writer failed. Lack of memory may come at any point, but a count that was too large at any worker is reported before
@@ -89,10 +98,18 @@ fn answer<R: Threads + Wait + Sync, W: Write, O: Write + Send + Drop, E: Write>(
 /// `passed M` with rising numbers, the last one once all workers have ended; if its writer fails, nothing else changes. If `stats` is asked
 /// for, lines on `err` say, once the answer is written, what each vertex of the graph computed, took in and sent; if that writer fails,
 /// nothing else changes.
-pub fn run<R: Threads + Wait + Sync, Q: Read, I: Read, W: Write, O: Write + Send + Drop, E: Write>(
+pub fn run<
+    R: Threads + Wait + Sync,
+    G: Gate + Sync,
+    Q: Read,
+    I: Read,
+    W: Write,
+    O: Write + Send + Drop,
+    E: Write,
+>(
     rt: &R,
     alloc: Global,
-    options: RunOptions,
+    options: RunOptions<'_, G>,
     query: &mut Watched<Q>,
     input: &mut Watched<I>,
     texts: &mut Texts,
@@ -105,9 +122,10 @@ pub fn run<R: Threads + Wait + Sync, Q: Read, I: Read, W: Write, O: Write + Send
     ensures query { IsErrOf result fault.ReadQuery → has_failed query.new ≡ true }
     ensures input { IsErrOf result fault.ReadInput → has_failed input.new ≡ true }
     ensures writer { IsErrOf result fault.Write → has_failed streams.new.out ≡ true }
-    ensures several { IsErrOf result fault.NoWorker → 1 < count_of options.workers }
+    ensures several { IsErrOf result fault.NoWorker → 1 < count_of options.entry.workers }
     ensures kept_query { KeepsQuery (Q.remaining (inner_of query.old)) result texts.new.query.items }
     ensures kept_input { KeepsInput (I.remaining (inner_of input.old)) result texts.new.input.items }
+    ensures counts { ReportsOver options.entry.stats texts.new.query.items texts.new.input.items (E.contents streams.old.err) (E.contents streams.new.err) }
 {
     match read_texts(alloc, query, input, texts) {
         Ok(()) => {}

@@ -1,3 +1,5 @@
 pub mod GraphInputs
 pub mod Graphs
 pub mod Settled
+pub mod Rows
+pub mod Tallying

@@ -21,8 +21,10 @@ mod claiming;
 mod ended;
 mod inputs;
 mod settling;
+mod tally;
 
 pub use claiming::claim;
 pub use ended::Ended;
 pub use inputs::law_inputs;
 pub use settling::{commit, compute, process, settle};
+pub use tally::{Counts, Tally};

@@ -4,6 +4,7 @@ ghost use Rattle.std.specs.Prelude.{◌≡◌, ◌≤◌, None, IfErr, IfOk, OnE
 ghost use Rattle.rows.specs.declared.fault.WorkFault.TheVariants.{Count};
 ghost use Rattle.board.specs.Answers.{Holds};
 ghost use Rattle.board.specs.Commits.{IsOf};
+ghost use Rattle.board.specs.Counting.{TellsCommit};
 ghost use Rattle.board.specs.Lateness.{IsAsLate, Posts};
 ghost use Rattle.board.specs.Overflow.{DoesOverflow, NeverOverflows};
 ghost use Rattle.board.specs.Shown.{tables};
@@ -47,6 +48,7 @@ pub fn compute<V: Views, G: Gate>(
 pub fn commit<V: Views>(board: &mut Board<V>, done: Done) -> Result<Sent, NoMemory>
     requires own { IsOf board.old.shown done }
     ensures ends { Ends board.old.shown board.new.shown done result }
+    ensures tells { IfOk result (λ sent. TellsCommit board.old.shown board.new.shown done sent) }
     ensures tables { tables board.new.shown ≡ tables board.old.shown }
     ensures posts { OnOk result (Posts V.late done.worker board.old board.new) }
     ensures views { OnErr result (IsAsLate board.old board.new) }
@@ -68,6 +70,7 @@ pub fn settle<V: Views>(
 ) -> Result<Sent, WorkFault>
     requires own { IsOf board.old.shown (event_of computed) }
     ensures ends { Ends board.old.shown board.new.shown (event_of computed) result }
+    ensures tells { IfOk result (λ sent. TellsCommit board.old.shown board.new.shown (event_of computed) sent) }
     ensures fault { IsFaultOf computed result }
     ensures tables { tables board.new.shown ≡ tables board.old.shown }
     ensures posts { OnOk result (Posts V.late (event_of computed).worker board.old board.new) }
@@ -96,6 +99,7 @@ pub fn process<V: Views, G: Gate>(
 ) -> Result<Sent, WorkFault>
     requires own { IsOf board.old.shown work.0 }
     ensures ends { Ends board.old.shown board.new.shown work.0 result }
+    ensures tells { IfOk result (λ sent. TellsCommit board.old.shown board.new.shown work.0 sent) }
     ensures fits { work.1 ≡ None → OnOk result (NeverOverflows board.old.shown work.0) }
     ensures over { work.1 ≡ None → IfErr result (λ f. f ≡ Count → DoesOverflow board.old.shown work.0) }
     ensures graph { board.new.shown.graph ≡ board.old.shown.graph }

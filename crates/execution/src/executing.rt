@@ -3,17 +3,18 @@
 ghost use Rattle.std.specs.Prelude.{◌≡◌, ◌≤◌, ◌<◌, ℕ, [], IfOk, OnErr, vec_capacity};
 ghost use Rattle.board.specs.Promises.{CountsPassed, IsDrained};
 ghost use Rattle.board.specs.Shown.{tables};
+ghost use Rattle.driver.specs.Tallies.{IsTally};
 ghost use Rattle.execution.specs.Fed.{IsWorkedOff};
 ghost use Rattle.execution.specs.Told.{IsTold, Tells};
 
 use crate::notice::Notice;
 use crate::readings::is_fed;
 use crate::single::run_single;
+use crate::start::{Finish, Start};
 use crate::task::Task;
 use crate::threads::{try_threads, work_off_all};
 use crate::unfinished::Unfinished;
 use crate::watching::{Observer, Watch, Watcher, fill};
-use board::Board;
 use collector::Epochs;
 use driver::law_inputs;
 use std::alloc::Global;
@@ -22,7 +23,7 @@ use std::marker::Brand;
 use std::sync::Wait;
 use std::thread::Threads;
 use views::Views;
-use workers::{Engine, Gate, Mark, Naming, Publisher, Report, Seat, finish};
+use workers::{Engine, Gate, Mark, Naming, Publisher, Seat, finish_counting};
 
 /// A new mark: its publisher, a seat at it, and the place to which the seat returns.
 #[derive(Drop)]
@@ -61,19 +62,22 @@ fn drive<
 >(
     rt: &R,
     alloc: Global,
-    board: Board<V>,
+    start: Start<V>,
     fresh: Fresh,
     task: Task<'_>,
     gate: &G,
     watch: &mut Watch<W>,
-) -> Result<Report<V>, Unfinished>
-    requires names { tables board.shown ≡ J.names }
-    requires graph { board.shown.graph ≡ J.graph }
+) -> Result<Finish<V>, Unfinished>
+    requires names { tables start.board.shown ≡ J.names }
+    requires graph { start.board.shown.graph ≡ J.graph }
+    requires first { start.board.shown ≡ J.first }
     requires mark { fresh.mark ≡ J.mark }
+    requires begins { IsTally start.board.shown start.board.shown start.tally }
     requires untold { watch.old.told ≡ 0 }
-    ensures graph { IfOk result (λ r. r.graph ≡ J.graph) }
-    ensures drained { IfOk result IsDrained }
-    ensures most { IfOk result (λ r. (n : ℕ) → CountsPassed r n → watch.new.told ≤ n) }
+    ensures graph { IfOk result (λ r. r.report.graph ≡ J.graph) }
+    ensures drained { IfOk result (λ r. IsDrained r.report) }
+    ensures counts { IfOk result (λ r. IsTally J.first r.report r.tally) }
+    ensures most { IfOk result (λ r. (n : ℕ) → CountsPassed r.report n → watch.new.told ≤ n) }
     ensures tells { Tells W.contents watch.old.watcher watch.new.watcher watch.old.told watch.new.told }
 {
     let Fresh {
@@ -82,7 +86,8 @@ fn drive<
         seat,
         mut place,
     } = fresh;
-    let engine = Engine::<J, V>::new(alloc, board, publisher)?;
+    let Start { board, tally } = start;
+    let engine = Engine::<J, V>::counting(alloc, board, publisher, tally)?;
     let observer = Observer::new(mark, seat, watch.lend());
     let (observer, done) = work_off_all(rt, alloc, &engine, task, gate, observer);
     let Observer {
@@ -92,25 +97,26 @@ fn drive<
     } = observer;
     watch.take_back(lent);
     place.push_reserved(seat);
-    finished(finish(engine, place), task, done)
+    let (report, tally) = finish_counting(engine, place);
+    finished(Finish { report, tally }, task, done)
 }
 
-/// The report of a run in which nothing is left to do.
+/// The end of a run in which nothing is left to do.
 fn finished<V: Views>(
-    report: Report<V>,
+    finish: Finish<V>,
     task: Task<'_>,
     done: Result<(), Unfinished>,
-) -> Result<Report<V>, Unfinished>
-    ensures same { IfOk result (λ r. r ≡ report) }
-    ensures drained { IfOk result IsDrained }
+) -> Result<Finish<V>, Unfinished>
+    ensures same { IfOk result (λ r. r ≡ finish) }
+    ensures drained { IfOk result (λ r. IsDrained r.report) }
 {
     if task.notice.is_over() {
         return Err(Unfinished::Count);
     }
     done?;
-    if report.drained() {
-        Ok(report)
-    } else if report.stopped() {
+    if finish.report.drained() {
+        Ok(finish)
+    } else if finish.report.stopped() {
         Err(Unfinished::NoMemory)
     } else {
         Err(Unfinished::Incomplete)
@@ -122,23 +128,25 @@ fn finished<V: Views>(
 fn drive_any<V: Views + Send, R: Threads + Wait + Sync, G: Gate + Sync, W: Write + Send + Drop>(
     rt: &R,
     alloc: Global,
-    board: Board<V>,
+    start: Start<V>,
     task: Task<'_>,
     gate: &G,
     watch: &mut Watch<W>,
-) -> Result<Report<V>, Unfinished>
+) -> Result<Finish<V>, Unfinished>
+    requires begins { IsTally start.board.shown start.board.shown start.tally }
     requires untold { watch.old.told ≡ 0 }
-    ensures graph { IfOk result (λ r. r.graph ≡ board.shown.graph) }
-    ensures drained { IfOk result IsDrained }
-    ensures most { IfOk result (λ r. (n : ℕ) → CountsPassed r n → watch.new.told ≤ n) }
+    ensures graph { IfOk result (λ r. r.report.graph ≡ start.board.shown.graph) }
+    ensures drained { IfOk result (λ r. IsDrained r.report) }
+    ensures counts { IfOk result (λ r. IsTally start.board.shown r.report r.tally) }
+    ensures most { IfOk result (λ r. (n : ℕ) → CountsPassed r.report n → watch.new.told ≤ n) }
     ensures tells { Tells W.contents watch.old.watcher watch.new.watcher watch.old.told watch.new.told }
 {
     if task.workers == 1 {
         try_threads(rt, task.threads)?;
-        return run_single(alloc, board, task, gate, watch);
+        return run_single(alloc, start, task, gate, watch);
     }
     let fresh = new_mark(alloc)?;
-    drive::<Brand, V, R, G, W>(rt, alloc, board, fresh, task, gate, watch)
+    drive::<Brand, V, R, G, W>(rt, alloc, start, fresh, task, gate, watch)
 }
 
 /// As `execute`, but the last line isn't ended.
@@ -146,33 +154,35 @@ fn drive_any<V: Views + Send, R: Threads + Wait + Sync, G: Gate + Sync, W: Write
 fn run<V: Views + Send, R: Threads + Wait + Sync, G: Gate + Sync, W: Write + Send + Drop>(
     rt: &R,
     alloc: Global,
-    board: Board<V>,
+    start: Start<V>,
     threads: u32,
     epochs: &Epochs,
     gate: &G,
     watch: &mut Watch<W>,
-) -> Result<Report<V>, Unfinished>
+) -> Result<Finish<V>, Unfinished>
+    requires begins { IsTally start.board.shown start.board.shown start.tally }
     requires untold { watch.old.told ≡ 0 }
-    ensures worked { IfOk result (λ r. IsWorkedOff board.shown.graph r epochs.now) }
-    ensures last { IfOk result (λ r. CountsPassed r watch.new.told) }
+    ensures worked { IfOk result (λ r. IsWorkedOff start.board.shown.graph r.report epochs.now) }
+    ensures counts { IfOk result (λ r. IsTally start.board.shown r.report r.tally) }
+    ensures last { IfOk result (λ r. CountsPassed r.report watch.new.told) }
     ensures tells { Tells W.contents watch.old.watcher watch.new.watcher watch.old.told watch.new.told }
 {
-    let graph = board.graph();
+    let graph = start.board.graph();
     law_inputs(graph);
     let inputs = graph.inputs().len() as u32;
     let notice = Notice::new();
     let task = Task {
         epochs,
         inputs,
-        threads: threads.max(board.workers()),
-        workers: board.workers(),
+        threads: threads.max(start.board.workers()),
+        workers: start.board.workers(),
         notice: &notice,
     };
-    let report = drive_any(rt, alloc, board, task, gate, watch)?;
-    let passed = report.passed();
+    let finish = drive_any(rt, alloc, start, task, gate, watch)?;
+    let passed = finish.report.passed();
     watch.tell_rise(passed);
-    if is_fed(&report, inputs, epochs, epochs.count()) {
-        Ok(report)
+    if is_fed(&finish.report, inputs, epochs, epochs.count()) {
+        Ok(finish)
     } else {
         Err(Unfinished::Incomplete)
     }
@@ -183,22 +193,25 @@ fn run<V: Views + Send, R: Threads + Wait + Sync, G: Gate + Sync, W: Write + Sen
 /// started then.
 ///
 /// Ok only if nothing is left to do, and each input was fed, at each epoch, exactly what was read. A watcher writes how many epochs have passed, as
-/// `passed M` with rising numbers, of which the last is how many have passed at the end. If its writer fails, nothing else changes.
+/// `passed M` with rising numbers, of which the last is how many have passed at the end. If its writer fails, nothing else changes. The counters say what
+/// each vertex did at each worker.
 pub fn execute<V: Views + Send, R: Threads + Wait + Sync, G: Gate + Sync, W: Write + Send + Drop>(
     rt: &R,
     alloc: Global,
-    board: Board<V>,
+    start: Start<V>,
     threads: u32,
     epochs: &Epochs,
     gate: &G,
     watcher: &mut Option<Watcher<W>>,
-) -> Result<Report<V>, Unfinished>
-    ensures worked { IfOk result (λ r. IsWorkedOff board.shown.graph r epochs.now) }
-    ensures told { IfOk result (λ r. (n : ℕ) × CountsPassed r n × IsTold W.contents watcher.old watcher.new n) }
+) -> Result<Finish<V>, Unfinished>
+    requires { IsTally start.board.shown start.board.shown start.tally }
+    ensures worked { IfOk result (λ r. IsWorkedOff start.board.shown.graph r.report epochs.now) }
+    ensures counts { IfOk result (λ r. IsTally start.board.shown r.report r.tally) }
+    ensures told { IfOk result (λ r. (n : ℕ) × CountsPassed r.report n × IsTold W.contents watcher.old watcher.new n) }
     ensures begun { OnErr result ((n : ℕ) × IsTold W.contents watcher.old watcher.new n) }
 {
     let mut watch = Watch::begin(watcher);
-    let result = run(rt, alloc, board, threads, epochs, gate, &mut watch);
+    let result = run(rt, alloc, start, threads, epochs, gate, &mut watch);
     fill(watcher, watch.end());
     result
 }

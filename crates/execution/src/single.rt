@@ -2,17 +2,20 @@
 
 ghost use Rattle.std.specs.Prelude.{◌≡◌, ◌≤◌, ℕ, IfOk, OnOk};
 ghost use Rattle.board.specs.Promises.{CountsPassed, IsDrained};
+ghost use Rattle.driver.specs.Tallies.{IsTally, Rows, StaysTally};
 ghost use Rattle.execution.specs.Told.{Tells};
 
+use crate::start::{Finish, Start};
 use crate::task::Task;
 use crate::unfinished::Unfinished;
 use crate::watching::Watch;
 use alone::work_off;
 use board::Board;
+use driver::Tally;
 use std::alloc::Global;
 use std::io::Write;
 use views::Views;
-use workers::{Ended, Gate, Report, report_of};
+use workers::{Ended, Gate, report_of};
 
 /// Feeds an epoch at each input, and seals it there.
 fn feed_epoch<V: Views>(
@@ -23,6 +26,7 @@ fn feed_epoch<V: Views>(
 ) -> Result<(), Unfinished>
     ensures graph { OnOk result (board.new.shown.graph ≡ board.old.shown.graph) }
     ensures rises { OnOk result (board.old.passed ≤ board.new.passed) }
+    ensures counts { OnOk result ((rows : Rows) → StaysTally board.old.shown rows board.new.shown rows) }
 {
     for input in 0..task.inputs {
         for batch in task.epochs.batches(input, epoch) {
@@ -37,6 +41,7 @@ fn feed_epoch<V: Views>(
 fn close_inputs<V: Views>(board: &mut Board<V>, inputs: u32) -> Result<(), Unfinished>
     ensures graph { OnOk result (board.new.shown.graph ≡ board.old.shown.graph) }
     ensures rises { OnOk result (board.old.passed ≤ board.new.passed) }
+    ensures counts { OnOk result ((rows : Rows) → StaysTally board.old.shown rows board.new.shown rows) }
 {
     for input in 0..inputs {
         board.close(input)?;
@@ -51,15 +56,17 @@ fn work_now<V: Views, G: Gate, W: Write>(
     board: &mut Board<V>,
     gate: &G,
     turn: &mut u64,
+    tally: &mut Tally,
     watch: &mut Watch<W>,
 ) -> Result<(), Unfinished>
     requires told { watch.old.told ≤ board.old.passed }
     ensures graph { OnOk result (board.new.shown.graph ≡ board.old.shown.graph) }
+    ensures counts { OnOk result (StaysTally board.old.shown tally.old board.new.shown tally.new) }
     ensures told { OnOk result (watch.new.told ≤ board.new.passed) }
     ensures most { OnOk result ((n : ℕ) → CountsPassed board.new.shown n → watch.new.told ≤ n) }
     ensures tells { Tells W.contents watch.old.watcher watch.new.watcher watch.old.told watch.new.told }
 {
-    match work_off(alloc, board, gate, 0, turn) {
+    match work_off(alloc, board, gate, 0, turn, tally) {
         None | Some(Ended::Drained) => {}
         Some(Ended::Stopped) => return Err(Unfinished::NoMemory),
         Some(Ended::Count) => return Err(Unfinished::Count),
@@ -76,42 +83,49 @@ fn feed_and_work<V: Views, G: Gate, W: Write>(
     board: &mut Board<V>,
     task: Task<'_>,
     gate: &G,
+    tally: &mut Tally,
     watch: &mut Watch<W>,
 ) -> Result<(), Unfinished>
     requires told { watch.old.told ≤ board.old.passed }
     ensures graph { OnOk result (board.new.shown.graph ≡ board.old.shown.graph) }
+    ensures counts { OnOk result (StaysTally board.old.shown tally.old board.new.shown tally.new) }
     ensures most { OnOk result ((n : ℕ) → CountsPassed board.new.shown n → watch.new.told ≤ n) }
     ensures tells { Tells W.contents watch.old.watcher watch.new.watcher watch.old.told watch.new.told }
 {
     let mut turn = 0;
     for epoch in 0..task.epochs.count() {
         feed_epoch(alloc, board, task, epoch)?;
-        work_now(alloc, board, gate, &mut turn, watch)?;
+        work_now(alloc, board, gate, &mut turn, tally, watch)?;
     }
     close_inputs(board, task.inputs)?;
-    work_now(alloc, board, gate, &mut turn, watch)
+    work_now(alloc, board, gate, &mut turn, tally, watch)
 }
 
 /// Runs a new board of one worker until nothing is left to do. Ok only if the board is drained.
 #[tactic(auto, using(crate::proofs::Tellings::tells_nothing))]
 pub fn run_single<V: Views, G: Gate, W: Write>(
     alloc: Global,
-    board: Board<V>,
+    start: Start<V>,
     task: Task<'_>,
     gate: &G,
     watch: &mut Watch<W>,
-) -> Result<Report<V>, Unfinished>
+) -> Result<Finish<V>, Unfinished>
+    requires begins { IsTally start.board.shown start.board.shown start.tally }
     requires untold { watch.old.told ≡ 0 }
-    ensures graph { IfOk result (λ r. r.graph ≡ board.shown.graph) }
-    ensures drained { IfOk result IsDrained }
-    ensures most { IfOk result (λ r. (n : ℕ) → CountsPassed r n → watch.new.told ≤ n) }
+    ensures graph { IfOk result (λ r. r.report.graph ≡ start.board.shown.graph) }
+    ensures drained { IfOk result (λ r. IsDrained r.report) }
+    ensures counts { IfOk result (λ r. IsTally start.board.shown r.report r.tally) }
+    ensures most { IfOk result (λ r. (n : ℕ) → CountsPassed r.report n → watch.new.told ≤ n) }
     ensures tells { Tells W.contents watch.old.watcher watch.new.watcher watch.old.told watch.new.told }
 {
-    let mut board = board;
-    feed_and_work(alloc, &mut board, task, gate, watch)?;
+    let Start {
+        mut board,
+        mut tally,
+    } = start;
+    feed_and_work(alloc, &mut board, task, gate, &mut tally, watch)?;
     let report = report_of(board);
     if report.drained() {
-        Ok(report)
+        Ok(Finish { report, tally })
     } else {
         Err(Unfinished::Incomplete)
     }

@@ -33,7 +33,7 @@ pub struct Watcher<W> {
 }
 
 /// Whether the writer takes the whole text, in one write if it can. If not, it took a beginning.
-fn takes_all<W: Write>(writer: &mut W, text: &[u8]) -> bool
+pub fn takes_all<W: Write>(writer: &mut W, text: &[u8]) -> bool
     ensures whole { result ≡ true → Appends (W.contents writer.old) (W.contents writer.new) text.now }
     ensures front { result ≡ false → AppendsFront (W.contents writer.old) (W.contents writer.new) text.now }
 {

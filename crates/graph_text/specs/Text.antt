@@ -37,6 +37,10 @@ abbrev pub ports_text : List Port → List ℕ
 ports_text [] = []
 ports_text (p ∷ ps) = port_text p ++ ports_text ps
 
+-- the number and the kind of a vertex
+abbrev pub vertex_text : ℕ → Kind → (x : Name) → List ℕ
+vertex_text n kind x = decimal n ++ (codes " " ++ kind_text kind x)
+
 -- the beginning of a line: the number and the kind
 abbrev pub line_head : ℕ → Kind → (x : Name) → List ℕ
 line_head n kind x = decimal n ++ (codes " " ++ (kind_text kind x ++ codes " "))

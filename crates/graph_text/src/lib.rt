@@ -11,4 +11,4 @@ mod label;
 mod text;
 
 pub use dot::{Figures, graph_dot, graph_dot_with};
-pub use text::graph_text;
+pub use text::{graph_text, name_of, put_number, put_vertex};

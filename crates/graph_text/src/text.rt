@@ -2,7 +2,7 @@
 
 ghost use Rattle.std.specs.Prelude.{◌≡◌, ◌++◌, codes, decimal, map, IfOk, OnOk, OnErr};
 ghost use Rattle.graph.specs.Shown.{shown_graph, shown_names};
-ghost use Rattle.graph_text.specs.Text.{graph_text, kind_text, line, line_head, line_rest, lines, name_beside, output_text, port_text, ports_text};
+ghost use Rattle.graph_text.specs.Text.{graph_text, kind_text, line, line_head, line_rest, lines, name_beside, output_text, port_text, ports_text, vertex_text};
 ghost use Rattle.graph.specs.Views.{graph_of, kind_of, name_of_output, number_of_output, port_of, sources_of, vertex_of};
 
 use graph::{Graph, GraphOutput, Kind, Port, Sources, Vertex};
@@ -62,6 +62,20 @@ fn put_line(text: &mut Vec<u8>, number: u64, vertex: &Vertex, name: &[u8]) -> Re
     put_head(text, number, &vertex.kind, name)?;
     put_rest(text, vertex.depth, &vertex.ins)?;
     Ok(())
+}
+
+/// Puts the number and the kind of a vertex at the end, of an output with its name.
+pub fn put_vertex(
+    text: &mut Vec<u8>,
+    number: u64,
+    kind: &Kind,
+    name: &[u8],
+) -> Result<(), NoMemory>
+    ensures { OnOk result (text.new.items ≡ text.old.items ++ vertex_text number (kind_of kind.now) name.now) }
+{
+    put_number(text, number)?;
+    text.extend_from_slice(b" ")?;
+    put_kind(text, kind, name)
 }
 
 /// A line up to the depth.

@@ -1,17 +1,13 @@
 //! Shows where the work of a run went: what each vertex computed, received and sent, by worker.
 //!
-//! A `Tally` is a gate that counts. It computes each event as `NoGate` does, and adds its numbers to counters that all threads share without a lock.
-//! What is fed is counted when the tally is made, as the engine cuts it. What is sent is counted at once for the vertex and the worker that it goes
-//! to. So once a run is drained, a vertex has received what is counted for it.
+//! A run is counted by `driver::Tally`, whose contract says what its numbers are. `Statistics` adds what is known before the run: the graph, and what
+//! is fed, as the engine cuts it; it gives both as lines, or in a drawing. The lines have the counters' numbers; of what is fed, and of messages and
+//! epochs, no clause says that the numbers are right.
 //!
-//! The contract for the layers above is that of `events::Gate`: the answer is the event's. No clause says that the numbers are right; tests show
-//! that. Built on `events`, `collector` and the crates below them; `console` writes the counts.
+//! Built on `driver`, `collector`, `graph_text` and the crates below them; `console` writes the text.
 #![tactic(auto)]
 
-mod counter;
 mod fed;
-mod gating;
 mod lines;
-mod tally;
 
-pub use tally::Tally;
+pub use fed::Statistics;

@@ -12,6 +12,7 @@ use Rattle.views.specs.contracts.direct.Direct as direct
 use Rattle.views.specs.contracts.local_views.LocalViews as local_views
 use Rattle.views.proofs.queue.Queue.TheSendSync as queues
 use Rattle.workers.proofs.mark.Publisher.TheSendSync as publishers
+use Rattle.driver.proofs.tally.Tally.TheSendSync as tallies
 use Rattle.board.specs.contracts.slot.Slot as slot
 use Rattle.progress.specs.contracts.tree.Tree as tree
 use Rattle.progress.specs.contracts.tree.Room as room
@@ -67,4 +68,4 @@ state_field_send = search (sendable, crosses, worker_send, wiring_send, wiring_s
 -- a `&` of an engine may go to any thread if the views may, whatever type names its board
 pub engine_sync : (J V : RattleType) (n : naming.Ghosts J.Denot) (v : viewing.Ghosts V.Denot)
     → IsSend J → IsSync J → IsSend V → IsSync (engine.the_row J V n v)
-engine_sync J V n v s y w = search (sendable, crosses, state_field_send, lags.the_send, pointstamps.the_send, publishers.the_send, wiring_sync, wiring_send) depth 40
+engine_sync J V n v s y w = search (sendable, crosses, state_field_send, lags.the_send, pointstamps.the_send, publishers.the_send, tallies.the_send, wiring_sync, wiring_send) depth 40

@@ -4,6 +4,7 @@ ghost use Rattle.std.specs.Prelude.{◌≡◌, ◌≤◌, ◌<◌, true, IfOk};
 ghost use Rattle.board.specs.Looks.{ShowsEachOutput, ShowsPassed};
 ghost use Rattle.board.specs.Shown.{tables};
 ghost use Rattle.driver.specs.Ends.{event_of};
+ghost use Rattle.driver.specs.Tallies.{IsTally};
 ghost use Rattle.workers.specs.Names.{GivesNamed, IsNamed};
 
 use crate::dispatcher::Wakeups;
@@ -12,6 +13,7 @@ use crate::mark::{Publisher, Seat};
 use crate::plan::{Feed, Plan};
 use crate::shared::Shared;
 use board::{Board, Claimed, Look, StepRefusal};
+use driver::Tally;
 use events::{Done, Work};
 use record_core::NoMemory;
 use rows::{Batch, WorkFault};
@@ -41,10 +43,26 @@ impl<J: Naming, V: Views> Engine<J, V> {
         requires mark { publisher.table ≡ J.mark }
         requires fresh { publisher.number ≡ 0 }
     {
+        Engine::counting(alloc, board, publisher, Tally::none(alloc))
+    }
+
+    /// The same with counters, which count each commit under the lock.
+    pub fn counting(
+        alloc: Global,
+        board: Board<V>,
+        publisher: Publisher,
+        tally: Tally,
+    ) -> Result<Engine<J, V>, NoMemory>
+        requires names { tables board.shown ≡ J.names }
+        requires graph { board.shown.graph ≡ J.graph }
+        requires mark { publisher.table ≡ J.mark }
+        requires fresh { publisher.number ≡ 0 }
+        requires counts { IsTally J.first board.shown tally }
+    {
         let plan = Plan::new(board.share_wiring()?);
         let bells = new_bells(alloc, board.workers())?;
         Ok(Engine {
-            shared: Mutex::new(Shared::new(Held::new(board, publisher))),
+            shared: Mutex::new(Shared::new(Held::new(board, publisher, tally))),
             plan,
             bells,
             passing: Condvar::new(),

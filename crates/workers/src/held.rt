@@ -10,12 +10,13 @@ ghost use Rattle.board.specs.Looks.{IsLookAt, ShowsEachOutput, ShowsPassed};
 ghost use Rattle.board.specs.Promises.{CountsPassed, HasPassedAtAll, IsDrained};
 ghost use Rattle.board.specs.Shown.{tables};
 ghost use Rattle.driver.specs.Ends.{Ends, IsFaultOf, event_of};
+ghost use Rattle.driver.specs.Tallies.{IsTally};
 ghost use Rattle.workers.specs.Held.{Publishes};
 ghost use Rattle.workers.specs.Names.{GivesNamed, IsNamed};
 
 use crate::mark::{Publisher, Seat};
 use board::{Board, Claimed, Look, Sent, StepRefusal, gather};
-use driver::settle;
+use driver::{Tally, settle};
 use events::{CutBatch, Done, Work};
 use path_summary::Pointstamp;
 use record_core::NoMemory;
@@ -24,38 +25,44 @@ use std::alloc::Global;
 use std::marker::{Brand, Model, PhantomData};
 use views::Views;
 
-/// Names a board by the tables by which its events are known, by the graph that it runs, and by the mark that counts its passed epochs. It has no values;
-/// `Brand` stands for the board that a call is about.
+/// Names a board by the tables by which its events are known, by the graph that it runs, by the mark that counts its passed epochs, and by what it showed
+/// when its counters were 0. It has no values; `Brand` stands for the board that a call is about.
 pub trait Naming {
     ghost use Rattle.std.specs.Prelude.{List};
     ghost use Rattle.atomic_table.specs.Seated.{TableId};
     ghost use Rattle.graph.specs.Shown.{GraphValue};
+    ghost use Rattle.board.specs.Shown.{Shown};
 
     ghost names: { List TableId };
 
     ghost graph: { GraphValue };
 
     ghost mark: { TableId };
+
+    ghost first: { Shown };
 }
 
 impl Naming for Brand {
-    ghost use Rattle.std.specs.Prelude.{[]};
+    ghost use Rattle.std.specs.Prelude.{[], false};
 
     ghost names = { [] };
 
     ghost graph = { record { vertices = []; inputs = []; outputs = []; arities = [] } };
 
     ghost mark = { record { words = 0; slots = 0; views_name = 0; atom = 0; block = 0; offset = 0; slot_names = [] } };
+
+    ghost first = { record { graph = record { vertices = []; inputs = []; outputs = []; arities = [] }; inputs = []; sides = []; emitted = []; stopped = false } };
 }
 
 /// After this many events all that waits is applied for every worker, so that what waits for one that sleeps stays short.
 const EVENTS: u32 = 1024;
 
-/// A board and its publisher. Each call makes the board's call, then applies all that waits for worker 0, and publishes what has passed. `events`
-/// counts those that ended since all that waited was applied for every worker.
+/// A board, its counters and its publisher. Each call makes the board's call, then applies all that waits for worker 0, and publishes what has passed.
+/// `events` counts those that ended since all that waited was applied for every worker.
 #[derive(Drop)]
 pub struct Held<J: Naming, V: Views> {
     board: Board<V>,
+    tally: Tally,
     publisher: Publisher,
     events: u32,
     of: PhantomData<J>,
@@ -69,6 +76,7 @@ impl<J: Naming, V: Views> Model for Held<J, V> {
     ghost use Rattle.std.specs.contracts.impls.GlobalAllocator.TheImpl as allocates;
     ghost use Rattle.expr_tree.specs.contracts.scalar.Scalar as scalar;
     ghost use Rattle.expr_tree.specs.contracts.condition.Cond as condition;
+    ghost use Rattle.driver.specs.Tallies.{IsTally};
     ghost use Rattle.workers.specs.Held.{HeldShown, IsHeld};
 
     ghost Value = { HeldShown };
@@ -82,16 +90,18 @@ impl<J: Naming, V: Views> Model for Held<J, V> {
 
     ghost view = { λ h. record { board = h.board; published = h.publisher.number } };
 
-    ghost invariant = { λ h. IsHeld J.names J.graph (record { board = h.board; published = h.publisher.number }) × (h.publisher.table ≡ J.mark) };
+    ghost invariant = { λ h. IsHeld J.names J.graph (record { board = h.board; published = h.publisher.number }) × (h.publisher.table ≡ J.mark)
+      × IsTally J.first h.board.shown h.tally };
 }
 
 impl<J: Naming, V: Views> Held<J, V> {
-    /// Publishes the epochs that have passed already.
-    pub fn new(board: Board<V>, publisher: Publisher) -> Held<J, V>
+    /// Publishes the epochs that have passed already. The counters go on counting commits.
+    pub fn new(board: Board<V>, publisher: Publisher, tally: Tally) -> Held<J, V>
         requires names { tables board.shown ≡ J.names }
         requires graph { board.shown.graph ≡ J.graph }
         requires mark { publisher.table ≡ J.mark }
         requires fresh { publisher.number ≡ 0 }
+        requires counts { IsTally J.first board.shown tally }
         ensures shown { result.board.shown ≡ board.shown }
         ensures applies { Applies 0 board result.board }
     {
@@ -100,6 +110,7 @@ impl<J: Naming, V: Views> Held<J, V> {
         publish(&mut board, &mut publisher);
         Held {
             board,
+            tally,
             publisher,
             events: 0,
             of: PhantomData,
@@ -201,6 +212,7 @@ impl<J: Naming, V: Views> Held<J, V> {
         self.board.law_stays();
         match settle(&mut self.board, computed) {
             Ok(sent) => {
+                self.tally.count(sent);
                 publish(&mut self.board, &mut self.publisher);
                 self.count_event();
                 Ok(sent)
@@ -303,20 +315,22 @@ impl<J: Naming, V: Views> Held<J, V> {
         Ok(look)
     }
 
-    /// The board, once nothing shares it.
-    pub fn into_board(self) -> Board<V>
-        ensures board { result ≡ self.board }
-        ensures graph { result.shown.graph ≡ J.graph }
-        ensures counts { CountsPassed result.shown self.published }
-        ensures prompt { IsUpToDate result 0 }
+    /// The board and its counters, once nothing shares them.
+    pub fn into_parts(self) -> (Board<V>, Tally)
+        ensures board { result.0 ≡ self.board }
+        ensures graph { result.0.shown.graph ≡ J.graph }
+        ensures passed { CountsPassed result.0.shown self.published }
+        ensures prompt { IsUpToDate result.0 0 }
+        ensures counts { IsTally J.first result.0.shown result.1 }
     {
         let Held {
             board,
+            tally,
             publisher: _,
             events: _,
             of: _,
         } = self;
-        board
+        (board, tally)
     }
 }
 

@@ -19,7 +19,8 @@
 //! | `Engine::look` | an observer | reads the mark by the seat, and what the board shows of an epoch | epochs below what the seat has read are shown as passed |
 //! | `finish` | the sole owner of the engine, with the seats of observers | ends the run | its `Report`: no seat has read more epochs than have passed |
 //!
-//! `report_of` gives the report of a board that was under no lock.
+//! `report_of` gives the report of a board that was under no lock. `Engine::counting` and `finish_counting` are for an engine that counts what each vertex
+//! does at each worker.
 //!
 //! A worker that runs out of memory, or meets a count that would be above 9223372036854775807, abandons its event. That stops the board,
 //! and all workers end.
@@ -60,5 +61,5 @@ pub use events::{Gate, NoGate};
 pub use held::{Held, Naming};
 pub use mark::{Mark, Publisher, Seat};
 pub use plan::Feed;
-pub use report::{Report, finish, report_of};
+pub use report::{Report, finish, finish_counting, report_of};
 pub use working::work;

@@ -6,11 +6,13 @@ ghost use Rattle.semantics.specs.Graph.{input_count, output_number, output_numbe
 ghost use Rattle.semantics.specs.Query.{Program};
 ghost use Rattle.board.specs.Promises.{CountsPassed, HasPassed, IsDrained, IsOutputPlace, KeepsPromise, RunsProgram};
 ghost use Rattle.board.specs.Shown.{emitted_by, input_at};
+ghost use Rattle.driver.specs.Tallies.{IsTally};
 
 use crate::engine::Engine;
 use crate::held::{Held, Naming};
 use crate::mark::Seat;
 use board::Board;
+use driver::Tally;
 use graph::Graph;
 use rows::Batch;
 use std::marker::Model;
@@ -134,11 +136,25 @@ pub fn finish<J: Naming, V: Views>(engine: Engine<J, V>, seats: Vec<Seat>) -> Re
     ensures graph { result.graph ≡ J.graph }
     ensures seats { (n : ℕ) → CountsPassed result n → All (λ s. s.number ≤ n) seats.items }
 {
+    let (report, _tally) = finish_counting(engine, seats);
+    report
+}
+
+/// The same, with the counters, which say what was done since they were 0.
+pub fn finish_counting<J: Naming, V: Views>(
+    engine: Engine<J, V>,
+    seats: Vec<Seat>,
+) -> (Report<V>, Tally)
+    requires { All (λ s. s.table ≡ J.mark) seats.items }
+    ensures graph { result.0.graph ≡ J.graph }
+    ensures seats { (n : ℕ) → CountsPassed result.0 n → All (λ s. s.number ≤ n) seats.items }
+    ensures counts { IsTally J.first result.0 result.1 }
+{
     let mut held = engine.into_held();
     observe_all(&mut held, seats);
-    let board = held.into_board();
+    let (board, tally) = held.into_parts();
     board.law_count();
-    Report { board }
+    (Report { board }, tally)
 }
 
 /// Has each seat read the mark once more.

@@ -1,11 +1,9 @@
-//! Runs of a whole input, as the program makes them, at whose gate two workers wait for one another.
+//! Runs of the program's own call, at whose gate two workers wait for one another.
 
-use crate::boards::{COPY, graph_of};
+use crate::boards::COPY;
 use crate::flags::Meeting;
-use board::Board;
-use collector::{Watched, read_input, write_epochs};
-use execution::{Watcher, emitted, execute};
-use parallel_texts::ParallelSorter;
+use collector::Watched;
+use console::{RunOptions, Streams, Texts, Watcher, Workers, run};
 use std::alloc::Global;
 use std::sync::Wait;
 use std::test::Fail;
@@ -22,15 +20,30 @@ fn copied<R: Threads + Wait + Sync, G: Gate + Sync>(
     input: &[u8],
     gate: &G,
 ) -> Option<Vec<u8>> {
-    let graph = graph_of(alloc, COPY)?;
-    let epochs = read_input(alloc, input, graph.inputs()).ok()?;
-    let board = Board::with_local_views(alloc, graph, 2).ok()?;
-    let mut watcher = None::<Watcher<Vec<u8>>>;
-    let report = execute(rt, alloc, board, 2, &epochs, gate, &mut watcher).ok()?;
-    let outputs = emitted(alloc, &report, epochs.count()).ok()?;
-    let sorter = ParallelSorter::new(rt, 2);
-    let mut out = Watched::new(Vec::new(alloc));
-    write_epochs(alloc, &sorter, outputs.as_slice(), epochs.count(), &mut out).ok()?;
+    let mut query = Watched::new(COPY.as_bytes());
+    let mut input = Watched::new(input);
+    let mut texts = Texts::new(alloc);
+    let mut streams = Streams {
+        out: Watched::new(Vec::new(alloc)),
+        err: Vec::new(alloc),
+        watcher: None::<Watcher<Vec<u8>>>,
+    };
+    let options = RunOptions {
+        workers: Workers::new(2)?,
+        gate,
+        stats: None,
+    };
+    run(
+        rt,
+        alloc,
+        options,
+        &mut query,
+        &mut input,
+        &mut texts,
+        &mut streams,
+    )
+    .ok()?;
+    let Streams { out, .. } = streams;
     Some(out.into_inner())
 }
 

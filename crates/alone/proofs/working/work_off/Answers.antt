@@ -1,6 +1,8 @@
-use Rattle.std.proofs.Common.{◌≤◌, ◌∙◌, ap, arith, length, subst, sym}
+use Rattle.std.proofs.Common.{◌≤◌, ◌∙◌, ap, arith, length, refl, subst, sym}
 use Rattle.machine.specs.Step.{Step}
+use Rattle.board.specs.declared.board.Claimed.TheVariants as Claimed
 use Rattle.board.specs.Shown.{Shown}
+use Rattle.driver.proofs.Tallying.{stays_claim, stays_committed, stays_step, stays_then}
 use Rattle.alone.specs.Rests.{IsAtRest, IsFree}
 use Rattle.alone.proofs.Free.{committed_free, gathers_free, spoiled_free}
 use Rattle.alone.proofs.Less.{claims_less, claims_stopped, gathers_lead}
@@ -60,6 +62,10 @@ events-preserved g c =
       c.in-Ok.ensures.graph ∙ c.in-Work.ensures.graph ∙ c.events.invariant.0,
       (let a = c.events.invariant.1 in let b = c.in-Work.ensures.passed in let d = c.in-Ok.ensures.passed in omega (arith, a, b, d)),
       λ free. committed_free c.events.board.shown claims.0 c.claim.new.board.shown c.process.new.board.shown c.args.worker p ends.1.0 c.law_run.ensures claims.1 claims.2.0 ends.1.1 (c.events.invariant.2 free),
+      stays_then c.args.board.now.shown c.claim.new.board.shown c.process.new.board.shown c.args.tally.now c.events.tally c.count.new.self
+          (stays_then c.args.board.now.shown c.events.board.shown c.claim.new.board.shown c.args.tally.now c.events.tally c.events.tally c.events.invariant.3
+          (stays_claim c.events.board.shown c.claim.new.board.shown c.args.worker (Claimed.Work c.in-Work.work) claims c.events.tally))
+          (stays_committed c.claim.new.board.shown c.process.new.board.shown c.events.tally p c.in-Ok.sent c.in-Ok.ensures.tells c.count.new.self c.count.ensures),
     )
 
 pub returns-in-Err-clause-free : goal.returns-in-Err-clause-free
@@ -80,3 +86,34 @@ returns-in-Busy-clause-free g c = λ free.
     let claims = c.in-Busy.ensures.claims in
     let there = gathers_free c.args.worker c.events.board.shown claims.0 c.law_run.ensures claims.1 (c.events.invariant.2 free) in
     claims.2.1 there.0 there.1
+
+pub events-init : goal.events-init
+events-init g c = (refl, omega arith, λ free. free, λ s is. is)
+
+pub returns-in-Err-clause-counts : goal.returns-in-Err-clause-counts
+returns-in-Err-clause-counts g c =
+    let p = c.in-Work.work.0 in
+    stays_then c.args.board.now.shown c.claim.new.board.shown c.process.new.board.shown c.args.tally.now c.events.tally c.events.tally
+    (stays_then c.args.board.now.shown c.events.board.shown c.claim.new.board.shown c.args.tally.now c.events.tally c.events.tally c.events.invariant.3
+    (stays_claim c.events.board.shown c.claim.new.board.shown c.args.worker (Claimed.Work c.in-Work.work) c.in-Work.ensures.claims c.events.tally))
+    (stays_step c.claim.new.board.shown c.process.new.board.shown (Step.abandon p.worker p.job.happening) tt c.in-Err.ensures.ends.1 c.events.tally)
+
+pub returns-in-Idle-clause-counts : goal.returns-in-Idle-clause-counts
+returns-in-Idle-clause-counts g c =
+    stays_then c.args.board.now.shown c.events.board.shown c.claim.new.board.shown c.args.tally.now c.events.tally c.events.tally c.events.invariant.3
+    (stays_claim c.events.board.shown c.claim.new.board.shown c.args.worker Claimed.Idle c.in-Idle.ensures.claims c.events.tally)
+
+pub returns-in-Drained-clause-counts : goal.returns-in-Drained-clause-counts
+returns-in-Drained-clause-counts g c =
+    stays_then c.args.board.now.shown c.events.board.shown c.claim.new.board.shown c.args.tally.now c.events.tally c.events.tally c.events.invariant.3
+    (stays_claim c.events.board.shown c.claim.new.board.shown c.args.worker Claimed.Drained c.in-Drained.ensures.claims c.events.tally)
+
+pub returns-in-Stopped-clause-counts : goal.returns-in-Stopped-clause-counts
+returns-in-Stopped-clause-counts g c =
+    stays_then c.args.board.now.shown c.events.board.shown c.claim.new.board.shown c.args.tally.now c.events.tally c.events.tally c.events.invariant.3
+    (stays_claim c.events.board.shown c.claim.new.board.shown c.args.worker Claimed.Stopped c.in-Stopped.ensures.claims c.events.tally)
+
+pub returns-in-Busy-clause-counts : goal.returns-in-Busy-clause-counts
+returns-in-Busy-clause-counts g c =
+    stays_then c.args.board.now.shown c.events.board.shown c.claim.new.board.shown c.args.tally.now c.events.tally c.events.tally c.events.invariant.3
+    (stays_claim c.events.board.shown c.claim.new.board.shown c.args.worker Claimed.Busy c.in-Busy.ensures.claims c.events.tally)

@@ -9,15 +9,15 @@ use Rattle.execution.proofs.executing.run.Goals as goal
 
 pub returns-then-is_fed-clause-worked : goal.returns-then-is_fed-clause-worked
 returns-then-is_fed-clause-worked g c =
-    let count : length c.inputs.result.now ≡ length (shown_inputs c.args.board.shown.graph) = sym (length-map c.inputs.result.now input_of) ∙ ap length c.inputs.ensures ∙ ap (λ g. length (shown_inputs g)) c.graph-graph.ensures in
-    is_worked_off c.args.board.shown.graph c.in_ok-report.report c.args.epochs.now (length c.inputs.result.now) c.count.result
-    c.in_ok-report.ensures.graph c.in_ok-report.ensures.drained (c.if-is_fed.ensures refl) count c.count.ensures
+    let count : length c.inputs.result.now ≡ length (shown_inputs c.args.start.board.shown.graph) = sym (length-map c.inputs.result.now input_of) ∙ ap length c.inputs.ensures ∙ ap (λ g. length (shown_inputs g)) c.graph-graph.ensures in
+    is_worked_off c.args.start.board.shown.graph c.in_ok-finish.finish.report c.args.epochs.now (length c.inputs.result.now) c.count.result
+    c.in_ok-finish.ensures.graph c.in_ok-finish.ensures.drained (c.if-is_fed.ensures refl) count c.count.ensures
 
 pub returns-then-is_fed-clause-last : goal.returns-then-is_fed-clause-last
 returns-then-is_fed-clause-last g c =
-    let most = c.in_ok-report.ensures.most c.passed-passed.result c.passed-passed.ensures in
+    let most = c.in_ok-finish.ensures.most c.passed-passed.result c.passed-passed.ensures in
     let last : c.tell_rise.new.self.told ≡ c.passed-passed.result = omega (arith, c.tell_rise.ensures.told, most) in
-    subst (λ (n : ℕ). CountsPassed c.in_ok-report.report n) (sym last) c.passed-passed.ensures
+    subst (λ (n : ℕ). CountsPassed c.in_ok-finish.finish.report n) (sym last) c.passed-passed.ensures
 
 pub returns-then-is_fed-clause-tells : goal.returns-then-is_fed-clause-tells
 returns-then-is_fed-clause-tells g c =

@@ -7,6 +7,7 @@ use Rattle.machine.specs.Step.{Step}
 use Rattle.views.specs.Waiting.{batch}
 use Rattle.board.specs.Answers.{Holds}
 use Rattle.board.specs.Commits.{IsOf, Settles, SettlesBy}
+use Rattle.board.specs.Counting.{TellsCommit}
 use Rattle.board.specs.Kept.{Goes, IsKept}
 use Rattle.board.specs.Lateness.{first_of, BoardShown, Posts}
 use Rattle.board.specs.Shown.{Shown, tables}
@@ -130,6 +131,11 @@ returns-in-Ok-clause-commits g c =
     let same : (g.V.Views.graph c.post_noted.new.views) ≡ (g.V.Views.graph c.self.inside.views) = c.post_noted.ensures.graph ∙ c.commit.ensures.graph in
     let Q : BoardShown → Type 0 = λ z. Holds z.shown p × ((out : ℕ → List Record) × Goes z.shown (Step.commit p.worker p.job.happening out) c.commit.new.self) in
     subst Q c.self.view_is (commit_goes (g.V.Views.graph c.self.inside.views) (g.V.Views.graph c.post_noted.new.views) (g.V.Views.content c.self.inside.views) (g.V.Views.content c.post_noted.new.views) s c.commit.new.self p c.self.invariant.kept of settles)
+
+pub returns-in-Ok-clause-tells : goal.returns-in-Ok-clause-tells
+returns-in-Ok-clause-tells g c =
+    let Q : BoardShown → Type 0 = λ z. TellsCommit z.shown c.commit.new.self c.args.done c.in-Ok.sent in
+    subst Q c.self.view_is c.in-Ok.ensures.tells
 
 pub returns-in-Ok-clause-tables : goal.returns-in-Ok-clause-tables
 returns-in-Ok-clause-tables g c =

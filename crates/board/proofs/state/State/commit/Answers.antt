@@ -1,6 +1,7 @@
 use Rattle.std.proofs.Common.{◌≡◌, ◌<◌, ℕ, List, length, sym, ap, ◌∙◌, subst, arith, slice_set, length-set}
 use Rattle.semantics.specs.Time.{Time}
 use Rattle.semantics.specs.Could.{Pointstamp, Location}
+use Rattle.semantics.specs.Multiset.{total}
 use Rattle.graph.specs.Locations.{IsIn, location_of}
 use Rattle.graph.specs.Shown.{GraphValue, shown_graph}
 use Rattle.machine.specs.Active.{event_pointstamp}
@@ -9,15 +10,17 @@ use Rattle.tokens.specs.declared.rule.Place.TheVariants.{Out}
 use Rattle.tokens.specs.Tokens.{Ticket}
 use Rattle.events.specs.Jobs.{Job, Pass}
 use Rattle.events.specs.Wired.{Wired}
-use Rattle.events.specs.Outputs.{IsOutputOf}
+use Rattle.events.specs.Outputs.{IsOutputOf, counted}
 use Rattle.events.specs.declared.letter.Letter.{Letter}
 use Rattle.events.specs.declared.work.Output.{Output}
 use Rattle.board.specs.WorkerShown.{WorkerShown, AreWithin, sides_of}
 use Rattle.board.specs.Shown.{Shown, Side, side_at, side_in, event_at, location_vertex}
 use Rattle.board.specs.Steps.{with_emitted}
+use Rattle.board.specs.declared.sent.Sent.{Sent}
 use Rattle.board.proofs.Facts as facts
 use Rattle.board.proofs.Ending.{many_settled, out_there, is_in, event_vertex_is, event_time_is, worker_there, side_there, read_side, own_table, state_then, added_then}
 use Rattle.board.proofs.MailboxRoom.{sides_same, sides_length, as_many}
+use Rattle.board.proofs.Telling.{tells_commit}
 use Rattle.board.proofs.state.State.commit.Goals as goal
 
 pub show-stub-requires : goal.show-stub-requires
@@ -209,6 +212,47 @@ returns-in-Ok-clause-settles g c =
       added_are = added_then c.finish-place.new.added.items o c.in-Ok.output rest c.finish-place.ensures.added;
       place_is = c.finish-place.ensures.place ∙ ap (λ (x : Output). x.place) rest ∙ is.place;
     }
+
+pub returns-in-Ok-clause-tells : goal.returns-in-Ok-clause-tells
+returns-in-Ok-clause-tells g c =
+    let s : Shown = c.args.self.now in
+    let p : Pass = c.args.done in
+    let ds : List WorkerShown = c.self.inside.workers.items in
+    let k : ℕ = c.worker-number.result in
+    let same : sides_of ds ≡ s.sides = ap (λ (x : Shown). x.sides) c.self.view_is in
+    let there : k < length ds = worker_there s p c.requires.own ds k c.worker-number.ensures same in
+    let shown : sides_of (slice_set ds k c.show-stub.new.self) ≡ sides_of ds = sides_same ds k c.show-stub.new.self c.index_mut.result.now there c.index_mut.ensures.value (ap (λ (x : WorkerShown). x.side) c.show-stub.ensures.state) in
+    let many : length (slice_set ds k c.show-stub.new.self) ≡ length ds = as_many (slice_set ds k c.show-stub.new.self) ds shown in
+    let many_sides : length ds ≡ length s.sides = sym (sides_length ds) ∙ ap length same in
+    let x : c.index_mut.result.now.side ≡ side_at s p.worker = read_side s p c.requires.own ds k c.worker-number.ensures same c.index_mut.result.now c.index_mut.ensures.value in
+    let out : (side_at s p.worker).place ≡ Out p.job = out_there s p c.index_mut.result.now.side c.into_parts-stub.result.0.job x c.show-stub.ensures.out (ap (λ (t : Ticket Job). t.job) c.into_parts-stub.ensures.stub) in
+    let o : Output = c.into_parts-stub.result.1 in
+    let is : IsOutputOf p.worker p.job o = c.into_parts-stub.ensures.output in
+    let own = facts.own_side s p c.requires.own in
+    let now : sides_of c.prepare.new.workers.items ≡ s.sides = c.prepare.ensures.sides ∙ shown ∙ same in
+    let rest : record c.in-Ok.output { emitted = o.emitted } ≡ o = c.in-Ok.ensures.rest in
+    let graph : c.graph-2.result.now ≡ s.graph = c.graph-2.ensures ∙ ap (λ (z : Wired). z.graph) c.deref-3.ensures ∙ ap (λ (x : Shown). x.graph) c.self.view_is in
+    let place : location_of c.location.result ≡ (event_pointstamp p.job.happening).location = c.location.ensures ∙ ap (λ (x : Pointstamp). x.location) is.place in
+    let vertex : c.vertex_at-vertex.result ≡ event_at (shown_graph s.graph) p.job.happening =
+    c.vertex_at-vertex.ensures ∙ (λ i. location_vertex (shown_graph (graph i)) (place i)) ∙ event_vertex_is (shown_graph s.graph) p.job.happening in
+    let epoch : c.epoch-epoch.result ≡ (event_time p.job.happening).epoch =
+    c.epoch-epoch.ensures ∙ ap (λ (t : Time). t.epoch) (c.time.ensures ∙ ap (λ (x : Pointstamp). x.time) is.place ∙ event_time_is p.job.happening) in
+    let t : Shown = record {
+      graph = c.self.inside.wiring.value.graph;
+      inputs = c.self.inside.inputs.items;
+      sides = sides_of c.finish-place.new.workers.items;
+      emitted = c.emit.new.emitted;
+      stopped = c.self.inside.stopped;
+    } in
+    let state = state_then s t p o c.in-Ok.output k c.vertex_at-vertex.result c.epoch-epoch.result (sides_of c.prepare.new.workers.items)
+        (ap (λ (x : Shown). x.graph) c.self.view_is) (ap (λ (x : Shown). x.inputs) c.self.view_is) (ap (λ (x : Shown). x.stopped) c.self.view_is)
+        c.finish-place.ensures.sides (c.in-Ok.ensures.ok ∙ ap (λ (x : Shown). with_emitted c.vertex_at-vertex.result c.epoch-epoch.result o.emitted x.emitted) c.self.view_is) now c.worker-number.ensures vertex epoch rest in
+    let letters = ap (λ (x : Output). counted (total (λ (l : Letter). length l.message.records) x.sent.items)) rest in
+    tells_commit (g.V.Views.graph c.args.views.now) (g.V.Views.content c.args.views.now) s c.requires.kept p c.requires.own out o is t c.of_event-sent.result state
+    (ap (λ (x : Sent). x.worker) c.of_event-sent.ensures ∙ c.worker-number.ensures)
+    (ap (λ (x : Sent). x.vertex) c.of_event-sent.ensures ∙ vertex)
+    (ap (λ (x : Sent). x.received) c.of_event-sent.ensures ∙ ap (λ (x : Output). x.received) rest)
+    (ap (λ (x : Sent). x.records) c.of_event-sent.ensures ∙ c.of-sends.ensures ∙ ap (λ (ls : List Letter). counted (total (λ (l : Letter). length l.message.records) ls)) c.deref-in-Ok.ensures.value ∙ letters)
 
 pub invariant_of-self-in-Ok : goal.invariant_of-self-in-Ok
 invariant_of-self-in-Ok g c =

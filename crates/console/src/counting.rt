@@ -1,0 +1,76 @@
+//! Counts what each vertex does in a run, and reports it, where that is asked for.
+
+ghost use Rattle.std.specs.Prelude.{◌<◌, ◌≤◌, IfOk};
+ghost use Rattle.semantics.specs.Limits.{max_workers};
+ghost use Rattle.console.specs.Reported.{AreReporting, ReportsBy, ReportsIn};
+
+use collector::Epochs;
+use command_line::GraphForm;
+use driver::Tally;
+use execution::takes_all;
+use graph::Graph;
+use record_core::NoMemory;
+use statistics::Statistics;
+use std::alloc::Global;
+use std::io::Write;
+use std::sync::Arc;
+
+/// How what is counted is reported.
+#[derive(Drop)]
+pub struct Reporting {
+    form: GraphForm,
+    statistics: Statistics,
+}
+
+impl Reporting {
+    /// A report of a run of the graph on that many workers, if one is asked for. What is fed is counted already.
+    pub fn of(
+        alloc: Global,
+        stats: Option<GraphForm>,
+        graph: &Arc<Graph, Global>,
+        workers: u32,
+        epochs: &Epochs,
+    ) -> Result<Option<Reporting>, NoMemory>
+        requires some { 0 < workers }
+        requires few { workers ≤ max_workers }
+        ensures { IfOk result (AreReporting stats graph.now.value) }
+    {
+        match stats {
+            None => Ok(None),
+            Some(form) => {
+                let statistics = Statistics::of(alloc, graph, workers, epochs)?;
+                Ok(Some(Reporting { form, statistics }))
+            }
+        }
+    }
+
+    /// Writes the lines or the drawing. Where there is no memory for it, nothing is written; a writer that fails was given a beginning.
+    pub fn write<E: Write>(&self, alloc: Global, tally: &Tally, err: &mut E)
+        ensures { ReportsIn self.now.form self.now.statistics.graph.value tally.now (E.contents err.old) (E.contents err.new) }
+    {
+        if tally.len() != self.statistics.vertex_count() {
+            return;
+        }
+        let text = match self.form {
+            GraphForm::Lines => self.statistics.text(alloc, tally),
+            GraphForm::Dot => self.statistics.dot(alloc, tally),
+        };
+        if let Ok(text) = text {
+            let _whole = takes_all(err, &text);
+        }
+    }
+}
+
+/// Writes a report, if it is asked for.
+pub fn report_counts<E: Write>(
+    alloc: Global,
+    report: &Option<Reporting>,
+    tally: &Tally,
+    err: &mut E,
+)
+    ensures { ReportsBy report.now tally.now (E.contents err.old) (E.contents err.new) }
+{
+    if let Some(report) = report {
+        report.write(alloc, tally, err);
+    }
+}

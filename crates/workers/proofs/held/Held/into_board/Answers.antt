@@ -1,7 +1,0 @@
-use Rattle.std.proofs.Common.{subst}
-use Rattle.board.specs.Promises.{CountsPassed}
-use Rattle.workers.specs.Held.{HeldShown}
-use Rattle.workers.proofs.held.Held.into_board.Goals as goal
-
-pub returns-clause-counts : goal.returns-clause-counts
-returns-clause-counts g c = let P : HeldShown → Type 0 = λ h. CountsPassed c.self.inside.board.shown h.published in subst P c.self.view_is c.self.invariant.0.published
