@@ -12,7 +12,7 @@ mod flags;
 #[cfg(test)]
 mod looks;
 #[cfg(test)]
-mod refusals;
+mod refused;
 #[cfg(test)]
 mod runs;
 #[cfg(test)]

@@ -1,7 +1,7 @@
 use denote.Param.Send.{sendable}
 use Rattle.std.proofs.Crossing.{crosses}
 use Rattle.workers.proofs.Crossing.{local_views_send}
-use Rattle.workers_conformance.proofs.refusals.new_run_with_local_views.Goals as goal
+use Rattle.workers_conformance.proofs.refused.new_run_with_local_views.Goals as goal
 
 pub run_epoch-requires-send-V : goal.run_epoch-requires-send-V
 run_epoch-requires-send-V g c κs = search (sendable, crosses, local_views_send) depth 20
