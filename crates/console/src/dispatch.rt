@@ -297,6 +297,7 @@ fn answer_asked<
             query,
             input,
             workers,
+            first,
             end_mark,
             ..
         } => {
@@ -306,7 +307,7 @@ fn answer_asked<
                 end_mark,
                 workers,
             };
-            Some(follow_named(rt, alloc, sources, task, &mut streams.out, kept))
+            Some(follow_named(rt, alloc, sources, task, first, &mut streams.out, kept))
         }
         Options::Replay {
             query,

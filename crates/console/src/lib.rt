@@ -39,7 +39,7 @@ mod writing;
 
 pub use checking::check_query;
 pub use collector::Sources;
-pub use command_line::{GraphForm, HeapSize, LineFault, Options, Query, Workers};
+pub use command_line::{FirstEpoch, GraphForm, HeapSize, LineFault, Options, Query, Workers};
 pub use compile::{CompileFault, compile, law_one_graph};
 pub use diagnostics::{Fault, Texts};
 pub use disk::{Disk, DiskText};
@@ -51,7 +51,7 @@ pub use graphing::graph_query;
 pub use input_check::check_input;
 pub use laws::{law_answered, law_followed, law_one_answer, law_replayed};
 pub use replaying::replay_schedule;
-pub use run_options::RunOptions;
+pub use run_options::{FollowOptions, RunOptions};
 pub use running::run;
 pub use schedule::ViewKind;
 pub use streams::Streams;
