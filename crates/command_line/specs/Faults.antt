@@ -8,6 +8,7 @@ abbrev pub line_status_of : LineFault → ℕ
 line_status_of line.NoMemory = 5
 line_status_of (line.Workers word) = 2
 line_status_of (line.Heap word) = 2
+line_status_of (line.FirstEpoch word) = 2
 line_status_of (line.Misplaced option commands) = 2
 line_status_of (line.Unknown option command options) = 2
 line_status_of (line.Unrecognized word commands) = 2

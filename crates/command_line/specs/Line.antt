@@ -32,9 +32,12 @@ inline_rule = record (flag_rule (codes "inline")) { short = Some 101 }
 abbrev pub range_rule : Text → (least most : ℕ) → Rule
 range_rule id least most = record (new_rule id) { long = Some id; value_names = 1; parser = Some (Unsigned least most) }
 
--- the options for the number of workers and for the size of the heap
+-- the options for the number of workers, for the number of the first epoch and for the size of the heap
 abbrev pub workers_rule : Rule
 workers_rule = range_rule (codes "workers") 1 64
+
+abbrev pub first_epoch_rule : Rule
+first_epoch_rule = range_rule (codes "first-epoch") 0 9223372036854775807
 
 abbrev pub heap_rule : Rule
 heap_rule = range_rule (codes "heap") 64 16777216
@@ -75,9 +78,11 @@ run_app =
     end_mark_rule))
     (word_rule (codes "INPUT"))
 
--- `follow QUERY` or `follow QUERY INPUT`, with or without `--workers N` and `--end-mark`
+-- `follow QUERY` or `follow QUERY INPUT`, with or without `--workers N`, `--first-epoch E` and `--end-mark`
 abbrev pub follow_app : App
-follow_app = with_rule (queried (with_rule (with_rule (new_app (codes "follow")) workers_rule) end_mark_rule)) (optional_rule (codes "INPUT"))
+follow_app =
+    with_rule (queried (with_rule (with_rule (with_rule (new_app (codes "follow")) workers_rule) first_epoch_rule) end_mark_rule))
+    (optional_rule (codes "INPUT"))
 
 -- `replay QUERY SCHEDULE`, with or without `--workers N` and `--views`
 abbrev pub replay_app : App
@@ -142,6 +147,11 @@ abbrev pub AreAskedFor : Option Text → (workers : ℕ) → Type 0
 AreAskedFor None workers = workers ≡ 1
 AreAskedFor (Some word) workers = Spells word workers
 
+-- the first epoch is called so: 0 if no word says its number
+abbrev pub IsAskedFirst : Option Text → (number : ℕ) → Type 0
+IsAskedFirst None number = number ≡ 0
+IsAskedFirst (Some word) number = Spells word number
+
 -- a heap of that size is asked for; none if no word says its size
 abbrev pub IsAskedHeap : Option Text → Option HeapSize → Type 0
 IsAskedHeap None None = Unit {0}
@@ -165,9 +175,9 @@ HoldsAt name rows (Run query input workers watch stats end_mark explain) =
     (name ≡ codes "run") × IsAskedQuery rows query × (first_of (codes "INPUT") rows ≡ Some input.now)
     × AreAskedFor (one_of (codes "workers") rows) workers.count
     × IsFlag (codes "watch") rows watch × AreStats rows stats × IsFlag (codes "end-mark") rows end_mark × IsFlag (codes "explain") rows explain
-HoldsAt name rows (Follow query input workers end_mark explain) =
+HoldsAt name rows (Follow query input workers first end_mark explain) =
     (name ≡ codes "follow") × IsAskedQuery rows query × IsAskedInput (first_of (codes "INPUT") rows) input.now
-    × AreAskedFor (one_of (codes "workers") rows) workers.count
+    × AreAskedFor (one_of (codes "workers") rows) workers.count × IsAskedFirst (one_of (codes "first-epoch") rows) first.number
     × IsFlag (codes "end-mark") rows end_mark × IsFlag (codes "explain") rows explain
 HoldsAt name rows (Check query input heap explain) =
     (name ≡ codes "check") × IsAskedQuery rows query × (option_map (λ s. s.now) input ≡ first_of (codes "INPUT") rows)
@@ -206,7 +216,7 @@ AreBothInput query other = IsQueryInput query × (other ≡ codes "-")
 -- both texts that the options name are standard input
 abbrev pub NamesInputTwice : Options → Type 0
 NamesInputTwice (Run query input workers watch stats end_mark explain) = AreBothInput query input.now
-NamesInputTwice (Follow query input workers end_mark explain) = AreBothInput query input.now
+NamesInputTwice (Follow query input workers first end_mark explain) = AreBothInput query input.now
 NamesInputTwice (Check query (Some input) heap explain) = AreBothInput query input.now
 NamesInputTwice (Check query None heap explain) = ⊥
 NamesInputTwice (Graph query form heap explain) = ⊥

@@ -3,12 +3,13 @@
 ghost use Rattle.std.specs.Prelude.{◌≡◌, map, option_map, IfErr, IfOk, IfSome, IsErrOf, codes, false};
 ghost use Rattle.clap.specs.Words.{app_of, first_of, found_of, new_app, one_of, rows_of, rule_of};
 ghost use Rattle.clap.specs.declared.builder.Command.TheViews.{out-Command as fields_of};
-ghost use Rattle.command_line.specs.Line.{AreAskedFor, AreStats, AsksTwice, Asks, Holds, HoldsAt, IsAskedHeap, IsAskedInput, IsAskedQuery, IsFlag, IsNumber};
-ghost use Rattle.command_line.specs.Line.{check_app, explain_app, flag_rule, follow_app, format_app, graph_app, inline_rule, line_app, queried, sql_app};
+ghost use Rattle.command_line.specs.Line.{AreAskedFor, AreStats, AsksTwice, Asks, Holds, HoldsAt, IsAskedFirst, IsAskedHeap, IsAskedInput, IsAskedQuery, IsFlag, IsNumber};
+ghost use Rattle.command_line.specs.Line.{check_app, explain_app, first_epoch_rule, flag_rule, follow_app, format_app, graph_app, inline_rule, line_app, queried, sql_app};
 ghost use Rattle.command_line.specs.Line.{optional_rule, program_app, range_rule, replay_app, run_app, word_rule};
 ghost use Rattle.command_line.specs.Faults.{IsOfWords};
 ghost use Rattle.command_line.specs.declared.line_fault.LineFault.TheVariants as fault;
 
+use crate::first_epoch::FirstEpoch;
 use crate::heap_size::HeapSize;
 use crate::line_fault::LineFault;
 use crate::line_options::{GraphForm, Options};
@@ -110,6 +111,18 @@ fn workers_arg<'a>(alloc: Global) -> Arg<'a>
         .value_name("N")
         .value_parser(value_parser!(u64).range(1..=64))
         .help("Number of workers, 1 to 64; default 1")
+}
+
+/// The option `--first-epoch E`.
+fn first_epoch_arg<'a>(alloc: Global) -> Arg<'a>
+    ensures rule { rule_of result ≡ first_epoch_rule }
+    ensures local { result.global ≡ false }
+{
+    Arg::new(alloc, "first-epoch")
+        .long("first-epoch")
+        .value_name("E")
+        .value_parser(value_parser!(u64).range(0..=9_223_372_036_854_775_807))
+        .help("What the first epoch is called; default 0")
 }
 
 /// The option `--heap BYTES`.
@@ -235,7 +248,10 @@ fn follow_command<'a>(alloc: Global) -> Result<Command<'a>, AllocError>
         "follow",
         "Answer a query as its input arrives, and report each complete epoch",
     );
-    let command = command.arg(workers_arg(alloc))?.arg(end_mark_arg(alloc))?;
+    let command = command
+        .arg(workers_arg(alloc))?
+        .arg(first_epoch_arg(alloc))?
+        .arg(end_mark_arg(alloc))?;
     with_query(alloc, command)?.arg(optional_arg(
         alloc,
         "INPUT",
@@ -328,6 +344,24 @@ fn number_of(found: &ArgMatches<'_>, id: &str) -> Result<Option<u32>, ParseIntEr
     found.try_get_one::<u32>(id)
 }
 
+/// The number of an option that has up to 64 bits, in the same way.
+fn long_number_of(found: &ArgMatches<'_>, id: &str) -> Result<Option<u64>, ParseIntError>
+    ensures { IfOk result (IsNumber (one_of id.now (rows_of (found_of found.now)))) }
+{
+    found.try_get_one::<u64>(id)
+}
+
+/// What the first epoch is called: 0 if no word says it.
+fn first_epoch_of(found: &ArgMatches<'_>) -> Option<FirstEpoch>
+    ensures { IfSome result (λ f. IsAskedFirst (one_of (codes "first-epoch") (rows_of (found_of found.now))) f.number) }
+{
+    match long_number_of(found, "first-epoch") {
+        Ok(None) => Some(FirstEpoch::zero()),
+        Ok(Some(number)) => FirstEpoch::new(number),
+        Err(_) => None,
+    }
+}
+
 /// The number of workers: one if no word says it.
 fn workers_of(found: &ArgMatches<'_>) -> Option<Workers>
     ensures { IfSome result (λ w. AreAskedFor (one_of (codes "workers") (rows_of (found_of found.now))) w.count) }
@@ -415,12 +449,14 @@ fn follow_options<'a>(found: &ArgMatches<'a>) -> Option<Options<'a>>
     let workers = workers_of(found)?;
     let query = query_of(found)?;
     let input = followed_input(found);
+    let first = first_epoch_of(found)?;
     let end_mark = flag_of(found, "end-mark");
     let explain = flag_of(found, "explain");
     Some(Options::Follow {
         query,
         input,
         workers,
+        first,
         end_mark,
         explain,
     })
@@ -531,6 +567,7 @@ fn invalid_value(alloc: Global, error: Error) -> LineFault
         Ok(None) => LineFault::Line(error),
         Ok(Some(OutOfRange::Workers(word))) => LineFault::Workers { word },
         Ok(Some(OutOfRange::Heap(word))) => LineFault::Heap { word },
+        Ok(Some(OutOfRange::FirstEpoch(word))) => LineFault::FirstEpoch { word },
         Err(_) => LineFault::NoMemory,
     }
 }

@@ -6,6 +6,7 @@
 #![tactic(auto)]
 
 mod command;
+mod first_epoch;
 mod heap_size;
 mod line_fault;
 mod line_options;
@@ -15,6 +16,7 @@ mod unknown_words;
 mod worker_count;
 
 pub use command::options;
+pub use first_epoch::FirstEpoch;
 pub use heap_size::HeapSize;
 pub use line_fault::LineFault;
 pub use line_options::{GraphForm, Options};

@@ -20,6 +20,11 @@ pub enum LineFault {
     Heap {
         word: String,
     },
+    /// The word after `--first-epoch` is no number of an epoch.
+    #[error("error: invalid value '{word}' for '--first-epoch <E>': {word} is not in 0..=9223372036854775807")]
+    FirstEpoch {
+        word: String,
+    },
     /// An option that the command doesn't take, and others do: its name, and theirs.
     #[error("error: unexpected argument '--{option}' found; it is an option of {commands}")]
     Misplaced {
@@ -62,6 +67,7 @@ impl LineFault {
             LineFault::NoMemory => 5,
             LineFault::Workers { .. }
             | LineFault::Heap { .. }
+            | LineFault::FirstEpoch { .. }
             | LineFault::Misplaced { .. }
             | LineFault::Unknown { .. }
             | LineFault::Unrecognized { .. }

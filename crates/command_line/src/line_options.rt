@@ -1,5 +1,6 @@
 //! What a command line asks for.
 
+use crate::first_epoch::FirstEpoch;
 use crate::heap_size::HeapSize;
 use crate::query::Query;
 use crate::worker_count::Workers;
@@ -19,12 +20,13 @@ pub enum Options<'a> {
         end_mark: bool,
         explain: bool,
     },
-    /// `loom follow QUERY`, or `loom follow QUERY INPUT`, on one worker or `--workers N`; with `--end-mark` the input has to end with a line
-    /// `end`; and a fault explained with `--explain`
+    /// `loom follow QUERY`, or `loom follow QUERY INPUT`, on one worker or `--workers N`; the first epoch is called 0, or with
+    /// `--first-epoch E` E; with `--end-mark` the input has to end with a line `end`; and a fault explained with `--explain`
     Follow {
         query: Query<'a>,
         input: &'a str,
         workers: Workers,
+        first: FirstEpoch,
         end_mark: bool,
         explain: bool,
     },

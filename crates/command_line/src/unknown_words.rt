@@ -32,6 +32,7 @@ pub struct Unrecognized {
 pub enum OutOfRange {
     Workers(String),
     Heap(String),
+    FirstEpoch(String),
 }
 
 /// The text between two others, of which the first is at the beginning.
@@ -178,6 +179,9 @@ pub fn word_out_of_range(alloc: Global, error: &Error) -> Result<Option<OutOfRan
     }
     if let Some(word) = between(text, before, "' for '--heap <BYTES>': ") {
         return Ok(Some(OutOfRange::Heap(String::from_str(alloc, word)?)));
+    }
+    if let Some(word) = between(text, before, "' for '--first-epoch <E>': ") {
+        return Ok(Some(OutOfRange::FirstEpoch(String::from_str(alloc, word)?)));
     }
     Ok(None)
 }

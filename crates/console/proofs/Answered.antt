@@ -46,7 +46,7 @@ run_answered texts read (Run query input workers watch stats end_mark explain) q
     subst (λ n. IsAnswered queries read n i m old new) (sym a.0)
     (subst (λ n. IsAnswered queries read (query_word query) n m old new) (sym a.1)
     (subst (λ n. IsAnswered queries read (query_word query) input.now n old new) (sym a.2) (answered queries read (query_word query) input.now end_mark old new d.result d.on_read.0 d.reported)))
-run_answered texts read (Follow query input workers end_mark explain) q i m old new a d = absurd a
+run_answered texts read (Follow query input workers first end_mark explain) q i m old new a d = absurd a
 run_answered texts read (Check query input heap explain) q i m old new a d = absurd a
 run_answered texts read (Graph query form heap explain) q i m old new a d = absurd a
 run_answered texts read (Format query explain) q i m old new a d = absurd a

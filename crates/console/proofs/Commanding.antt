@@ -16,6 +16,7 @@ two_or_five : (fault : LineFault) → (line_status_of fault ≡ 2) ⊎ (line_sta
 two_or_five line.NoMemory = inr refl
 two_or_five (line.Workers word) = inl refl
 two_or_five (line.Heap word) = inl refl
+two_or_five (line.FirstEpoch word) = inl refl
 two_or_five (line.Misplaced option commands) = inl refl
 two_or_five (line.Unknown option command options) = inl refl
 two_or_five (line.Unrecognized word commands) = inl refl

@@ -19,14 +19,14 @@ use Rattle.compile.proofs.Rewritten.{same_many}
 use Rattle.diagnostics.specs.declared.fault.Fault.{Fault}
 use Rattle.diagnostics.specs.declared.fault.Fault.TheVariants.{Query, TooManyVertices, Input as InputFault, Schedule, NoMemory, Count, NoWorker, Incomplete, ReadQuery, ReadInput, Write}
 
-module _ (query : List ℕ) (g : GraphValue) (read : Reading) (old new : Option (List ℕ)) (c : IsCompiled query (shown_graph g) (shown_inputs g) (shown_names g)) where
-  followed : (result : Result (Unit {0}) Ending) → FollowsInput g read old new result → IsFollowed query read old new result
+module _ (offset : ℕ) (query : List ℕ) (g : GraphValue) (read : Reading) (old new : Option (List ℕ)) (c : IsCompiled query (shown_graph g) (shown_inputs g) (shown_names g)) where
+  followed : (result : Result (Unit {0}) Ending) → FollowsInput offset g read old new result → IsFollowed offset query read old new result
   followed result f = record { graph = g; compiled = c; follows = f }
 
-  pub ends_well : (u : Unit {0}) → FollowsInput g read old new (Ok u) → FollowEnds query read old new (Ok u)
+  pub ends_well : (u : Unit {0}) → FollowsInput offset g read old new (Ok u) → FollowEnds offset query read old new (Ok u)
   ends_well u f = followed (Ok u) f
 
-  pub ends_ill : (e : Ending) → FollowsInput g read old new (Err e) → FollowEnds query read old new (Err (follow_fault_of e))
+  pub ends_ill : (e : Ending) → FollowsInput offset g read old new (Err e) → FollowEnds offset query read old new (Err (follow_fault_of e))
   ends_ill (ending.Input code line) f = followed (Err (ending.Input code line)) f
   ends_ill ending.Read f = followed (Err ending.Read) f
   ends_ill ending.Write f = followed (Err ending.Write) f
@@ -35,11 +35,11 @@ module _ (query : List ℕ) (g : GraphValue) (read : Reading) (old new : Option 
   ends_ill ending.TooLong f = followed (Err ending.TooLong) f
 
 -- what holds of what was read holds of what it is a case of
-module _ (query : List ℕ) (r s : Reading) (old new : Option (List ℕ)) (h : (bytes : List ℕ) (ended : Bool) → r bytes ended → s bytes ended) where
-  wider : (result : Result (Unit {0}) Ending) → IsFollowed query r old new result → IsFollowed query s old new result
+module _ (offset : ℕ) (query : List ℕ) (r s : Reading) (old new : Option (List ℕ)) (h : (bytes : List ℕ) (ended : Bool) → r bytes ended → s bytes ended) where
+  wider : (result : Result (Unit {0}) Ending) → IsFollowed offset query r old new result → IsFollowed offset query s old new result
   wider result f = record { graph = f.graph; compiled = f.compiled; follows = (f.follows.0, f.follows.1, h f.follows.0 f.follows.1 f.follows.2, f.follows.3) }
 
-  pub ends_wider : (result : Result (Unit {0}) Fault) → FollowEnds query r old new result → FollowEnds query s old new result
+  pub ends_wider : (result : Result (Unit {0}) Fault) → FollowEnds offset query r old new result → FollowEnds offset query s old new result
   ends_wider (Ok u) f = wider (Ok u) f
   ends_wider (Err (InputFault code line)) f = wider (Err (ending.Input code line)) f
   ends_wider (Err ReadInput) f = wider (Err ending.Read) f
@@ -55,43 +55,43 @@ module _ (query : List ℕ) (r s : Reading) (old new : Option (List ℕ)) (h : (
   ends_wider (Err NoWorker) f = absurd f
 
 -- of a reader whose bytes are known
-pub ends_known : {I : Type 0} (remaining : I → Option (List ℕ)) (a b : Watched I) (query : List ℕ) (old new : Option (List ℕ)) (result : Result (Unit {0}) Fault) → FollowEnds query (HasRead remaining a b) old new result → FollowEnds query (IsReadOf (remaining (inner_of a))) old new result
-ends_known remaining a b query old new result f = ends_wider query (HasRead remaining a b) (IsReadOf (remaining (inner_of a))) old new (λ bytes ended h. (remaining (inner_of b), h.known, h.last)) result f
+pub ends_known : (offset : ℕ) → {I : Type 0} (remaining : I → Option (List ℕ)) (a b : Watched I) (query : List ℕ) (old new : Option (List ℕ)) (result : Result (Unit {0}) Fault) → FollowEnds offset query (HasRead remaining a b) old new result → FollowEnds offset query (IsReadOf (remaining (inner_of a))) old new result
+ends_known offset remaining a b query old new result f = ends_wider offset query (HasRead remaining a b) (IsReadOf (remaining (inner_of a))) old new (λ bytes ended h. (remaining (inner_of b), h.known, h.last)) result f
 
-unread_query_ends : (query : List ℕ) (read : Reading) (old : Option (List ℕ)) (e : Fault) → IsUnreadQuery e → FollowEnds query read old old (Err e)
-unread_query_ends query read old NoMemory u = inl refl
-unread_query_ends query read old ReadQuery u = refl
-unread_query_ends query read old ReadInput u = absurd u
-unread_query_ends query read old (Query code start end) u = absurd u
-unread_query_ends query read old TooManyVertices u = absurd u
-unread_query_ends query read old (InputFault code line) u = absurd u
-unread_query_ends query read old (Schedule code line) u = absurd u
-unread_query_ends query read old Count u = absurd u
-unread_query_ends query read old NoWorker u = absurd u
-unread_query_ends query read old Incomplete u = absurd u
-unread_query_ends query read old Write u = absurd u
+unread_query_ends : (offset : ℕ) → (query : List ℕ) (read : Reading) (old : Option (List ℕ)) (e : Fault) → IsUnreadQuery e → FollowEnds offset query read old old (Err e)
+unread_query_ends offset query read old NoMemory u = inl refl
+unread_query_ends offset query read old ReadQuery u = refl
+unread_query_ends offset query read old ReadInput u = absurd u
+unread_query_ends offset query read old (Query code start end) u = absurd u
+unread_query_ends offset query read old TooManyVertices u = absurd u
+unread_query_ends offset query read old (InputFault code line) u = absurd u
+unread_query_ends offset query read old (Schedule code line) u = absurd u
+unread_query_ends offset query read old Count u = absurd u
+unread_query_ends offset query read old NoWorker u = absurd u
+unread_query_ends offset query read old Incomplete u = absurd u
+unread_query_ends offset query read old Write u = absurd u
 
 -- the query could not be read
-pub follows_unread : {Q I : Type 0} (left : Q → Option (List ℕ)) (remaining : I → Option (List ℕ)) (q₀ q₁ : Watched Q) (i₀ i₁ : Watched I) (old : Option (List ℕ)) (e : Fault) → HandsSome q₀ q₁ → IsUnreadQuery e → FollowsOnHanded left remaining q₀ q₁ i₀ i₁ old old (Err e)
-follows_unread left remaining q₀ q₁ i₀ i₁ old e h u = record { query = h.0; read = inr (h.1, u); ends = unread_query_ends h.0 (HasRead remaining i₀ i₁) old e u }
+pub follows_unread : (offset : ℕ) → {Q I : Type 0} (left : Q → Option (List ℕ)) (remaining : I → Option (List ℕ)) (q₀ q₁ : Watched Q) (i₀ i₁ : Watched I) (old : Option (List ℕ)) (e : Fault) → HandsSome q₀ q₁ → IsUnreadQuery e → FollowsOnHanded offset left remaining q₀ q₁ i₀ i₁ old old (Err e)
+follows_unread offset left remaining q₀ q₁ i₀ i₁ old e h u = record { query = h.0; read = inr (h.1, u); ends = unread_query_ends offset h.0 (HasRead remaining i₀ i₁) old e u }
 
 -- it was read
-pub follows_read : {Q I : Type 0} (left : Q → Option (List ℕ)) (remaining : I → Option (List ℕ)) (q₀ q₁ : Watched Q) (i₀ i₁ : Watched I) (query : List ℕ) (old new : Option (List ℕ)) (result : Result (Unit {0}) Fault) → HandsQuery left q₀ q₁ query → FollowEnds query (HasRead remaining i₀ i₁) old new result → FollowsOnHanded left remaining q₀ q₁ i₀ i₁ old new result
-follows_read left remaining q₀ q₁ i₀ i₁ query old new result h e = record { query = query; read = inl h; ends = e }
+pub follows_read : (offset : ℕ) → {Q I : Type 0} (left : Q → Option (List ℕ)) (remaining : I → Option (List ℕ)) (q₀ q₁ : Watched Q) (i₀ i₁ : Watched I) (query : List ℕ) (old new : Option (List ℕ)) (result : Result (Unit {0}) Fault) → HandsQuery left q₀ q₁ query → FollowEnds offset query (HasRead remaining i₀ i₁) old new result → FollowsOnHanded offset left remaining q₀ q₁ i₀ i₁ old new result
+follows_read offset left remaining q₀ q₁ i₀ i₁ query old new result h e = record { query = query; read = inl h; ends = e }
 
 -- a refused query: nothing is written
-pub refused_ends : (query : List ℕ) (read : Reading) (old new : Option (List ℕ)) (fault : Fault) → new ≡ old → IsQueryFault query fault → FollowEnds query read old new (Err fault)
-refused_ends query read old new (Query code start end) same h = (same, h)
-refused_ends query read old new TooManyVertices same h = (same, h)
-refused_ends query read old new NoMemory same h = inl same
-refused_ends query read old new (InputFault code line) same h = absurd h
-refused_ends query read old new (Schedule code line) same h = absurd h
-refused_ends query read old new Count same h = absurd h
-refused_ends query read old new NoWorker same h = absurd h
-refused_ends query read old new Incomplete same h = absurd h
-refused_ends query read old new ReadQuery same h = absurd h
-refused_ends query read old new ReadInput same h = absurd h
-refused_ends query read old new Write same h = absurd h
+pub refused_ends : (offset : ℕ) → (query : List ℕ) (read : Reading) (old new : Option (List ℕ)) (fault : Fault) → new ≡ old → IsQueryFault query fault → FollowEnds offset query read old new (Err fault)
+refused_ends offset query read old new (Query code start end) same h = (same, h)
+refused_ends offset query read old new TooManyVertices same h = (same, h)
+refused_ends offset query read old new NoMemory same h = inl same
+refused_ends offset query read old new (InputFault code line) same h = absurd h
+refused_ends offset query read old new (Schedule code line) same h = absurd h
+refused_ends offset query read old new Count same h = absurd h
+refused_ends offset query read old new NoWorker same h = absurd h
+refused_ends offset query read old new Incomplete same h = absurd h
+refused_ends offset query read old new ReadQuery same h = absurd h
+refused_ends offset query read old new ReadInput same h = absurd h
+refused_ends offset query read old new Write same h = absurd h
 
 -- the fault of a query is neither a reader's nor a writer's
 pub not_read : (query : List ℕ) (fault : Fault) → IsQueryFault query fault → fault ≡ ReadInput → ⊥

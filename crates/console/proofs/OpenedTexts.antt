@@ -52,8 +52,8 @@ module _ (queries : Known) (texts : Transcripts) (query_name : List ℕ) {Q : Ty
           ends = subst (λ bs. ends (bytes_of c.0) bs) input (subst (λ bs. ends bs h.input) query h.ends);
         }
 
-    pub followed_closed : (remaining : I → Option (List ℕ)) (old new : Option (List ℕ)) (result : Result (Unit {0}) Fault) → FollowsOnHanded left remaining q.text q₁ i.text i₁ old new result → FollowsOnTexts queries texts query_name input_name marked old new result
-    followed_closed remaining old new result h =
+    pub followed_closed : (offset : ℕ) (remaining : I → Option (List ℕ)) (old new : Option (List ℕ)) (result : Result (Unit {0}) Fault) → FollowsOnHanded offset left remaining q.text q₁ i.text i₁ old new result → FollowsOnTexts offset queries texts query_name input_name marked old new result
+    followed_closed offset remaining old new result h =
         let query : h.query ≡ bytes_of c.0 = same_bytes q q₁ texts.query none c h.query (elim h.read [ inl r ↦ r.0 | inr r ↦ r.0 ]) in
         record {
           query = c.0;
@@ -61,7 +61,7 @@ module _ (queries : Known) (texts : Transcripts) (query_name : List ℕ) {Q : Ty
           opened = (c.1, c.2 ∙ named, c.5 ∙ plain);
           other_opened = (d.1, d.2 ∙ other_named, d.5 ∙ other_marked);
           whole = elim h.read [ inl r ↦ inl (is_read h.query r) | inr r ↦ inr r.1 ];
-          ends = ends_wider (bytes_of c.0) (HasRead remaining i.text i₁) (IsReadFrom d.0) old new
+          ends = ends_wider offset (bytes_of c.0) (HasRead remaining i.text i₁) (IsReadFrom d.0) old new
               (λ bytes ended r. (same_bytes i i₁ texts.input other_none d bytes r.hands, λ e. d.4 ∙ r.said e)) result
-              (subst (λ bs. FollowEnds bs (HasRead remaining i.text i₁) old new result) query h.ends);
+              (subst (λ bs. FollowEnds offset bs (HasRead remaining i.text i₁) old new result) query h.ends);
         }

@@ -31,7 +31,7 @@ on_line (Inline text) = true
 
 abbrev pub asks_inline : Options → Bool
 asks_inline (Run query input workers watch stats end_mark explain) = on_line query
-asks_inline (Follow query input workers end_mark explain) = on_line query
+asks_inline (Follow query input workers first end_mark explain) = on_line query
 asks_inline (Check query input heap explain) = on_line query
 asks_inline (Graph query form heap explain) = on_line query
 asks_inline (Format query explain) = on_line query

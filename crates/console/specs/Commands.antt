@@ -30,8 +30,8 @@ abbrev pub RunsOn : (queries texts : Known) → (query input : List ℕ) → Opt
 RunsOn queries texts query input old new result =
     IfSome (queries query) (λ q. Heeds (read_part q) old new result × IfSome (texts input) (λ i. Ends (read_part q) i old new result))
 
-abbrev pub FollowsOn : (queries texts : Known) → (query input : List ℕ) → Option (List ℕ) → Option (List ℕ) → Result (Unit {0}) Fault → Type 0
-FollowsOn queries texts query input old new result = FollowsOver (queries query) (texts input) old new result
+abbrev pub FollowsOn : (offset : ℕ) → (queries texts : Known) → (query input : List ℕ) → Option (List ℕ) → Option (List ℕ) → Result (Unit {0}) Fault → Type 0
+FollowsOn offset queries texts query input old new result = FollowsOver offset (queries query) (texts input) old new result
 
 -- the query alone where no input is named, and else both
 abbrev pub ChecksOn : (queries texts : Known) → (query : List ℕ) → (input : Option (List ℕ)) → Option (List ℕ) → Option (List ℕ) → Result (Unit {0}) Fault → Type 0
@@ -59,7 +59,7 @@ Explains code old new result = (row : Explanation) × (code ≡ decimal row.code
 -- the command of these options ends so
 abbrev pub EndsOn : (queries texts : Known) → Options → Option (List ℕ) → Option (List ℕ) → Result (Unit {0}) Fault → Type 0
 EndsOn queries texts (Run query input workers watch stats end_mark explain) old new result = RunsOn queries (known_inputs end_mark texts) (query_word query) input.now old new result
-EndsOn queries texts (Follow query input workers end_mark explain) old new result = FollowsOn queries (known_inputs end_mark texts) (query_word query) input.now old new result
+EndsOn queries texts (Follow query input workers first end_mark explain) old new result = FollowsOn first.number queries (known_inputs end_mark texts) (query_word query) input.now old new result
 EndsOn queries texts (Check query input heap explain) old new result = ChecksOn queries texts (query_word query) (option_map (λ s. s.now) input) old new result
 EndsOn queries texts (Graph query form heap explain) old new result = GraphsOn queries form (query_word query) old new result
 EndsOn queries texts (Format query explain) old new result = FormatsOn queries (query_word query) old new result
@@ -107,7 +107,7 @@ pub record IsAnswered (queries : Known) (read : Transcripts) (query_name input_n
 -- the options are of a run of a query and an input of these names, which may have to end with the mark
 abbrev pub AsksRun : Options → (query input : List ℕ) → (marked : Bool) → Type 0
 AsksRun (Run query input workers watch stats end_mark explain) q i m = (q ≡ query_word query) × (i ≡ input.now) × (m ≡ end_mark)
-AsksRun (Follow query input workers end_mark explain) q i m = ⊥
+AsksRun (Follow query input workers first end_mark explain) q i m = ⊥
 AsksRun (Check query input heap explain) q i m = ⊥
 AsksRun (Graph query form heap explain) q i m = ⊥
 AsksRun (Format query explain) q i m = ⊥

@@ -38,25 +38,26 @@ IsPartByText query g records entries = (c : IsGraphOfText query g) → IsPart g 
 abbrev pub IsReadOf : (input : Option (List ℕ)) → Reading
 IsReadOf input bytes ended = (left : Option (List ℕ)) × Consumes input left bytes × (ended ≡ true → IsAtEnd left)
 
--- Over the graph of the query, some bytes of the input were read, and what was written is an answer to the lines among them.
-pub record IsFollowed (query : List ℕ) (read : Reading) (old new : Option (List ℕ)) (result : Result (Unit {0}) Ending) : Type 0 where
+-- Over the graph of the query, some bytes of the input were read, and what was written is an answer to the lines among them. The offset is added to
+-- the number of each epoch.
+pub record IsFollowed (offset : ℕ) (query : List ℕ) (read : Reading) (old new : Option (List ℕ)) (result : Result (Unit {0}) Ending) : Type 0 where
   pub graph : GraphValue
   pub compiled : IsGraphOfText query graph
-  pub follows : FollowsInput graph read old new result
+  pub follows : FollowsInput offset graph read old new result
 
 -- The input is answered to its end at Ok. At a faulty line, or where the reader or the writer failed, what was written is an answer to
 -- what was read before; so it is where a count is too large. Nothing is written where the query can't be read or is refused. Lack of
 -- memory may come at any place.
-abbrev pub FollowEnds : List ℕ → (read : Reading) → Option (List ℕ) → Option (List ℕ) → Result (Unit {0}) Fault → Type 0
-FollowEnds query read old new (Ok u) = IsFollowed query read old new (Ok u)
-FollowEnds query read old new (Err (Input code line)) = IsFollowed query read old new (Err (ending.Input code line))
-FollowEnds query read old new (Err ReadInput) = IsFollowed query read old new (Err ending.Read)
-FollowEnds query read old new (Err Write) = IsFollowed query read old new (Err ending.Write)
-FollowEnds query read old new (Err NoMemory) = (new ≡ old) ⊎ IsFollowed query read old new (Err ending.NoMemory)
-FollowEnds query read old new (Err Count) = IsFollowed query read old new (Err ending.Count)
-FollowEnds query read old new (Err Incomplete) = IsFollowed query read old new (Err ending.TooLong)
-FollowEnds query read old new (Err (Query code start end)) = (new ≡ old) × IsQueryFault query (Query code start end)
-FollowEnds query read old new (Err TooManyVertices) = (new ≡ old) × IsQueryFault query TooManyVertices
-FollowEnds query read old new (Err ReadQuery) = new ≡ old
-FollowEnds query read old new (Err (Schedule code line)) = ⊥
-FollowEnds query read old new (Err NoWorker) = ⊥
+abbrev pub FollowEnds : (offset : ℕ) → List ℕ → (read : Reading) → Option (List ℕ) → Option (List ℕ) → Result (Unit {0}) Fault → Type 0
+FollowEnds offset query read old new (Ok u) = IsFollowed offset query read old new (Ok u)
+FollowEnds offset query read old new (Err (Input code line)) = IsFollowed offset query read old new (Err (ending.Input code line))
+FollowEnds offset query read old new (Err ReadInput) = IsFollowed offset query read old new (Err ending.Read)
+FollowEnds offset query read old new (Err Write) = IsFollowed offset query read old new (Err ending.Write)
+FollowEnds offset query read old new (Err NoMemory) = (new ≡ old) ⊎ IsFollowed offset query read old new (Err ending.NoMemory)
+FollowEnds offset query read old new (Err Count) = IsFollowed offset query read old new (Err ending.Count)
+FollowEnds offset query read old new (Err Incomplete) = IsFollowed offset query read old new (Err ending.TooLong)
+FollowEnds offset query read old new (Err (Query code start end)) = (new ≡ old) × IsQueryFault query (Query code start end)
+FollowEnds offset query read old new (Err TooManyVertices) = (new ≡ old) × IsQueryFault query TooManyVertices
+FollowEnds offset query read old new (Err ReadQuery) = new ≡ old
+FollowEnds offset query read old new (Err (Schedule code line)) = ⊥
+FollowEnds offset query read old new (Err NoWorker) = ⊥

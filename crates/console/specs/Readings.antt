@@ -26,8 +26,8 @@ read_part text = take (suc max_length) text
 abbrev pub RunsOver : (query input : Option (List ℕ)) → Option (List ℕ) → Option (List ℕ) → Result (Unit {0}) Fault → Type 0
 RunsOver query input old new result = IfSome query (λ q. IfSome input (λ i. Ends (read_part q) i old new result))
 
-abbrev pub FollowsOver : (query input : Option (List ℕ)) → Option (List ℕ) → Option (List ℕ) → Result (Unit {0}) Fault → Type 0
-FollowsOver query input old new result = IfSome query (λ q. FollowEnds (read_part q) (IsReadOf input) old new result)
+abbrev pub FollowsOver : (offset : ℕ) → (query input : Option (List ℕ)) → Option (List ℕ) → Option (List ℕ) → Result (Unit {0}) Fault → Type 0
+FollowsOver offset query input old new result = IfSome query (λ q. FollowEnds offset (read_part q) (IsReadOf input) old new result)
 
 abbrev pub ChecksOver : (query : Option (List ℕ)) → Option (List ℕ) → Option (List ℕ) → Result (Unit {0}) Fault → Type 0
 ChecksOver query old new result = IfSome query (λ q. CheckEnds (read_part q) old new result)
@@ -117,7 +117,8 @@ ReplaysOnHanded workers kind left q₀ q₁ s₀ s₁ old new result =
 
 -- Following ends so on what its two readers handed over: of the query the whole text, and of the input what its reader has handed over so far,
 -- which is all of it only once that has ended. Where the reader of the query failed, or memory ran out, nothing is written.
-pub record FollowsOnHanded {Q I : Type 0} (left : Q → Option (List ℕ)) (remaining : I → Option (List ℕ)) (q₀ q₁ : Watched Q) (i₀ i₁ : Watched I) (old new : Option (List ℕ)) (result : Result (Unit {0}) Fault) : Type 0 where
+pub record FollowsOnHanded (offset : ℕ) {Q I : Type 0} (left : Q → Option (List ℕ)) (remaining : I → Option (List ℕ)) (q₀ q₁ : Watched Q)
+    (i₀ i₁ : Watched I) (old new : Option (List ℕ)) (result : Result (Unit {0}) Fault) : Type 0 where
   pub query : List ℕ
   pub read : HandsQuery left q₀ q₁ query ⊎ (Hands q₀ q₁ query × IsOfQuery result)
-  pub ends : FollowEnds query (HasRead remaining i₀ i₁) old new result
+  pub ends : FollowEnds offset query (HasRead remaining i₀ i₁) old new result

@@ -56,7 +56,8 @@ pub record EndsOnText (queries : Known) (texts : Transcripts) (name : List ℕ) 
 
 -- A command of two texts ends so on what the texts of these names handed over, which is all of them unless the fault is of reading. The second may
 -- have to end with the mark.
-pub record EndsOnTexts (queries : Known) (texts : Transcripts) (query_name input_name : List ℕ) (marked : Bool) (promised : (query input : List ℕ) → Type 0) (result : Result (Unit {0}) Fault) : Type 0 where
+pub record EndsOnTexts (queries : Known) (texts : Transcripts) (query_name input_name : List ℕ) (marked : Bool)
+    (promised : (query input : List ℕ) → Type 0) (result : Result (Unit {0}) Fault) : Type 0 where
   pub query : Transcript
   pub input : Transcript
   pub opened : IsOf texts.query query_name false query
@@ -69,13 +70,14 @@ abbrev pub IsReadFrom : Transcript → Reading
 IsReadFrom t bytes ended = (bytes ≡ bytes_of t) × (ended ≡ true → is_complete t ≡ true)
 
 -- Following ends so on the whole query, and on what the input handed over so far. Where that has to end with the mark, it has an end only there.
-pub record FollowsOnTexts (queries : Known) (texts : Transcripts) (query_name input_name : List ℕ) (marked : Bool) (old new : Option (List ℕ)) (result : Result (Unit {0}) Fault) : Type 0 where
+pub record FollowsOnTexts (offset : ℕ) (queries : Known) (texts : Transcripts) (query_name input_name : List ℕ) (marked : Bool)
+    (old new : Option (List ℕ)) (result : Result (Unit {0}) Fault) : Type 0 where
   pub query : Transcript
   pub input : Transcript
   pub opened : IsOf texts.query query_name false query
   pub other_opened : IsOf texts.input input_name marked input
   pub whole : IsReadQuery (queries query_name) query ⊎ IsOfQuery result
-  pub ends : FollowEnds (bytes_of query) (IsReadFrom input) old new result
+  pub ends : FollowEnds offset (bytes_of query) (IsReadFrom input) old new result
 
 -- each command ends so
 abbrev pub RunsOnTexts : Known → Transcripts → (query input : List ℕ) → (marked : Bool) → Option (List ℕ) → Option (List ℕ) → Result (Unit {0}) Fault → Type 0
@@ -107,7 +109,7 @@ StartsSeveral workers result = IsErrOf result NoWorker → 1 < count_of workers
 abbrev pub EndsOnRead : Known → Transcripts → Options → Option (List ℕ) → Option (List ℕ) → Result (Unit {0}) Fault → Type 0
 EndsOnRead queries texts (Run query input workers watch stats end_mark explain) old new result =
     RunsOnTexts queries texts (query_word query) input.now end_mark old new result × StartsSeveral workers result
-EndsOnRead queries texts (Follow query input workers end_mark explain) old new result = FollowsOnTexts queries texts (query_word query) input.now end_mark old new result
+EndsOnRead queries texts (Follow query input workers first end_mark explain) old new result = FollowsOnTexts first.number queries texts (query_word query) input.now end_mark old new result
 EndsOnRead queries texts (Check query input heap explain) old new result = ChecksOnTexts queries texts (query_word query) (option_map (λ s. s.now) input) old new result
 EndsOnRead queries texts (Graph query form heap explain) old new result = GraphsOnTexts queries texts form (query_word query) old new result
 EndsOnRead queries texts (Format query explain) old new result = FormatsOnTexts queries texts (query_word query) old new result

@@ -13,14 +13,14 @@ use crate::formatting::format_query;
 use crate::graphing::graph_query;
 use crate::input_check::check_input;
 use crate::replaying::replay_schedule;
-use crate::run_options::RunOptions;
+use crate::run_options::{FollowOptions, RunOptions};
 use crate::running::run;
 use crate::scripting::script_query;
 use crate::streams::Streams;
 use crate::transcripts::Transcripts;
 use bumpalo::Bump;
 use collector::{Opened, Sources, Watched, open_marked, open_named};
-use command_line::{GraphForm, HeapSize, Workers};
+use command_line::{FirstEpoch, GraphForm, HeapSize, Workers};
 use compile::Arithmetic;
 use diagnostics::{Fault, Texts};
 use linked_list_allocator::LocalHeap;
@@ -146,20 +146,25 @@ pub fn follow_named<'a, R: Threads + Sync, Q: Sources<'a>, S: Sources<'a>, W: Wr
     alloc: Global,
     sources: &S,
     task: Task<'a, '_, Q>,
+    first: FirstEpoch,
     out: &mut Watched<W>,
     kept: &mut Kept<'a>,
 ) -> Result<(), Fault>
-    ensures known { FollowsOn (Q.content task.entry.query.queries.now) (known_inputs task.entry.end_mark (S.content sources.now)) task.entry.query.name.now task.entry.input.now
+    ensures known { FollowsOn first.number (Q.content task.entry.query.queries.now) (known_inputs task.entry.end_mark (S.content sources.now)) task.entry.query.name.now task.entry.input.now
         (W.contents (inner_of out.old)) (W.contents (inner_of out.new)) result }
-    ensures read { FollowsOnTexts (Q.content task.entry.query.queries.now) kept.new.transcripts task.entry.query.name.now task.entry.input.now task.entry.end_mark
+    ensures read { FollowsOnTexts first.number (Q.content task.entry.query.queries.now) kept.new.transcripts task.entry.query.name.now task.entry.input.now task.entry.end_mark
         (W.contents (inner_of out.old)) (W.contents (inner_of out.new)) result }
 {
     let mut query = open_named(task.query.queries, task.query.name);
     let mut input = open_marked(sources, task.input, task.end_mark);
+    let options = FollowOptions {
+        workers: task.workers,
+        first,
+    };
     let done = follow_query(
         rt,
         alloc,
-        task.workers,
+        options,
         &mut query.text,
         &mut input.text,
         &mut kept.texts,

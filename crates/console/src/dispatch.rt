@@ -313,6 +313,7 @@ fn answer_asked<
             query,
             input,
             workers,
+            first,
             end_mark,
             ..
         } => {
@@ -322,7 +323,7 @@ fn answer_asked<
                 end_mark,
                 workers,
             };
-            Some(follow_named(rt, alloc, sources, task, &mut streams.out, kept))
+            Some(follow_named(rt, alloc, sources, task, first, &mut streams.out, kept))
         }
         Options::Replay {
             query,

@@ -42,7 +42,7 @@ mod writing;
 
 pub use checking::check_query;
 pub use collector::Sources;
-pub use command_line::{GraphForm, HeapSize, LineFault, Options, Query, Workers};
+pub use command_line::{FirstEpoch, GraphForm, HeapSize, LineFault, Options, Query, Workers};
 pub use compile::{Arithmetic, CompileFault, compile, law_one_graph};
 pub use diagnostics::{Fault, Texts};
 pub use disk::{Disk, DiskText};
@@ -54,7 +54,7 @@ pub use graphing::graph_query;
 pub use input_check::check_input;
 pub use laws::{law_answered, law_followed, law_one_answer, law_replayed};
 pub use replaying::replay_schedule;
-pub use run_options::RunOptions;
+pub use run_options::{FollowOptions, RunOptions};
 pub use running::run;
 pub use schedule::ViewKind;
 pub use scripting::script_query;

@@ -17,7 +17,7 @@ _loom() {
     elif [[ $word == -* ]]; then
         case ${COMP_WORDS[1]} in
         run) words="--workers --watch --stats --dot --end-mark --explain --inline --help" ;;
-        follow) words="--workers --end-mark --explain --inline --help" ;;
+        follow) words="--workers --first-epoch --end-mark --explain --inline --help" ;;
         replay) words="--workers --views --explain --inline --help" ;;
         check) words="--heap --explain --inline --help" ;;
         graph) words="--dot --heap --explain --inline --help" ;;

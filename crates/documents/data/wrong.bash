@@ -1,7 +1,7 @@
 # Deliberate mistakes: no command `format`, a command `walk`, no `run --dot`, and an option `follow --watch`.
     local commands="run follow replay check graph explain help walk"
         run) words="--workers --watch --stats --end-mark --explain --inline --help" ;;
-        follow) words="--workers --watch --end-mark --explain --inline --help" ;;
+        follow) words="--workers --watch --first-epoch --end-mark --explain --inline --help" ;;
         replay) words="--workers --views --explain --inline --help" ;;
         check) words="--heap --explain --inline --help" ;;
         graph) words="--dot --heap --explain --inline --help" ;;

@@ -63,9 +63,9 @@ no_entries (entry ∷ entries) none =
     let one : entry.1 ∷ records_of entry.0 entries ≡ [] = ap (λ t. cond t (entry.1 ∷ records_of entry.0 entries) (records_of entry.0 entries)) (sym own) ∙ none entry.0 in
     absurd cc
 
-pub renewed : (g : GraphValue) (workers : ℕ) (s t : Shown) (base last base2 : ℕ) (x y : Intake) (u v : Reporting) (bytes pending : List ℕ) (start now : Option (List ℕ)) → IsOpening g workers t → Shows t opening → y.begun ≡ 1 → y.line ≡ x.line → y.portion.items ≡ x.portion.items → length v.reported.items ≡ length u.reported.items → v.done ≡ 0 → ((k : ℕ) → reported_count u k ≡ 0)
-    → ((k : ℕ) → reported_count v k ≡ 0) → u.done ≡ last → x.begun ≡ last + 1 → base2 ≡ base + last → (w : IsWritten g s base x u bytes pending start now) → EndsInEpoch w.known.items → IsWritten g t base2 y v bytes pending start now
-renewed g workers s t base last base2 x y u v bytes pending start now opens shows one line portion same_room zero fresh_last fresh done begun moved w ends =
+pub renewed : (offset : ℕ) → (g : GraphValue) (workers : ℕ) (s t : Shown) (base last base2 : ℕ) (x y : Intake) (u v : Reporting) (bytes pending : List ℕ) (start now : Option (List ℕ)) → IsOpening g workers t → Shows t opening → y.begun ≡ 1 → y.line ≡ x.line → y.portion.items ≡ x.portion.items → length v.reported.items ≡ length u.reported.items → v.done ≡ 0 → ((k : ℕ) → reported_count u k ≡ 0)
+    → ((k : ℕ) → reported_count v k ≡ 0) → u.done ≡ last → x.begun ≡ last + 1 → base2 ≡ base + last → (w : IsWritten offset g s base x u bytes pending start now) → EndsInEpoch w.known.items → IsWritten offset g t base2 y v bytes pending start now
+renewed offset g workers s t base last base2 x y u v bytes pending start now opens shows one line portion same_room zero fresh_last fresh done begun moved w ends =
     let k = w.known in
     record {
       known = record {
@@ -92,8 +92,8 @@ renewed g workers s t base last base2 x y u v bytes pending start now opens show
           counted = line ∙ k.taken.counted;
         };
         reported = record {
-          reported = subst (λ (h : GraphValue). IsReport h (said_records k.items) (base2 + v.done) [] k.text) (k.graph ∙ sym opens.graph)
-              (subst (λ (n : ℕ). IsReport s.graph (said_records k.items) n [] k.text) number (subst (λ (es : List Entry). IsReport s.graph (said_records k.items) (base + u.done) es k.text) nothing k.reported.reported));
+          reported = subst (λ (h : GraphValue). IsReport offset h (said_records k.items) (base2 + v.done) [] k.text) (k.graph ∙ sym opens.graph)
+              (subst (λ (n : ℕ). IsReport offset s.graph (said_records k.items) n [] k.text) number (subst (λ (es : List Entry). IsReport offset s.graph (said_records k.items) (base + u.done) es k.text) nothing k.reported.reported));
           within = λ j. omega (arith, fresh j);
           first = λ j. ap (λ (n : ℕ). joined (take n (batches_of t j v.done))) (sym (fresh j));
         };

@@ -34,22 +34,22 @@ IsWhole g records entries = (p : Program) (k : ℕ) → IsGraphOf g p → k < le
 abbrev pub IsPart : GraphValue → (records : ℕ → List Record) → List Entry → Type 0
 IsPart g records entries = (p : Program) (k : ℕ) → IsGraphOf g p → k < length p.outputs → IsPartOf (records_of k entries) (program_meaning p k records)
 
--- The text reports the epochs in order. The first `done` are complete: for each, all lines of its answer, and then the line that says so. Of the next one
+-- The text reports the epochs in order, each under its number and the offset. The first `done` are complete: for each, all lines of its answer, and then the line that says so. Of the next one
 -- it has these entries.
-pub data IsReport (g : GraphValue) (records : (epoch input : ℕ) → List Record) : (done : ℕ) → List Entry → (text : List ℕ) → Type 0 where
-  reports_nothing : IsReport g records 0 [] []
-  reports_more : (done : ℕ) (entries more : List Entry) (text : List ℕ) → IsReport g records done entries text → AreAt (length (shown_names g)) more
-      → IsReport g records done (entries ++ more) (text ++ flat_map (entry_line (shown_names g) done) more)
-  reports_whole : (done : ℕ) (entries : List Entry) (text : List ℕ) → IsReport g records done entries text
-      → IsWhole g (records done) entries → IsReport g records (done + 1) [] (text ++ complete_line done)
+pub data IsReport (offset : ℕ) (g : GraphValue) (records : (epoch input : ℕ) → List Record) : (done : ℕ) → List Entry → (text : List ℕ) → Type 0 where
+  reports_nothing : IsReport offset g records 0 [] []
+  reports_more : (done : ℕ) (entries more : List Entry) (text : List ℕ) → IsReport offset g records done entries text → AreAt (length (shown_names g)) more
+      → IsReport offset g records done (entries ++ more) (text ++ flat_map (entry_line (shown_names g) (offset + done)) more)
+  reports_whole : (done : ℕ) (entries : List Entry) (text : List ℕ) → IsReport offset g records done entries text
+      → IsWhole g (records done) entries → IsReport offset g records (done + 1) [] (text ++ complete_line (offset + done))
 
 -- the records that lines say of an input in an epoch
 abbrev pub said_records : List Item → (epoch input : ℕ) → List Record
 said_records items epoch input = records_in epoch input 0 items
 
 -- what is written after the lines so far: the answers of the complete epochs are whole, and that of the next is part of what is meant
-pub record IsAnswer (g : GraphValue) (items : List Item) (done : ℕ) (entries : List Entry) (text : List ℕ) : Type 0 where
-  pub reported : IsReport g (said_records items) done entries text
+pub record IsAnswer (offset : ℕ) (g : GraphValue) (items : List Item) (done : ℕ) (entries : List Entry) (text : List ℕ) : Type 0 where
+  pub reported : IsReport offset g (said_records items) done entries text
   pub part : IsPart g (said_records items done) entries
 
 -- the bytes begin with these lines, which say these items; the rest is not read as lines
@@ -97,7 +97,7 @@ Writes old new text (Err ending.Count) = Appends old new text
 Writes old new text (Err ending.TooLong) = Appends old new text
 
 -- These bytes were read, and the reader may have said that these are all; what was written is an answer to the lines that were read.
-pub record Follows (g : GraphValue) (bytes : List ℕ) (ended : Bool) (old new : Option (List ℕ)) (result : Result (Unit {0}) Ending) : Type 0 where
+pub record Follows (offset : ℕ) (g : GraphValue) (bytes : List ℕ) (ended : Bool) (old new : Option (List ℕ)) (result : Result (Unit {0}) Ending) : Type 0 where
   pub lines : List (List ℕ)
   pub items : List Item
   pub rest : List (List ℕ)
@@ -105,7 +105,7 @@ pub record Follows (g : GraphValue) (bytes : List ℕ) (ended : Bool) (old new :
   pub entries : List Entry
   pub text : List ℕ
   pub read : IsRead (shown_inputs g) bytes lines items rest
-  pub answer : IsAnswer g items done entries text
+  pub answer : IsAnswer offset g items done entries text
   pub sealed : IsSealed (epochs_after 0 items) done ended rest
   pub reaches : Reaches (shown_inputs g) bytes ended lines items rest done entries result
   pub writes : Writes old new text result
@@ -123,5 +123,5 @@ abbrev pub Reading : Type 1
 Reading = (bytes : List ℕ) → (ended : Bool) → Type 0
 
 -- some bytes were read, and following them ended like this
-abbrev pub FollowsInput : GraphValue → Reading → (old new : Option (List ℕ)) → Result (Unit {0}) Ending → Type 0
-FollowsInput g read old new result = (bytes : List ℕ) × (ended : Bool) × read bytes ended × Follows g bytes ended old new result
+abbrev pub FollowsInput : (offset : ℕ) → GraphValue → Reading → (old new : Option (List ℕ)) → Result (Unit {0}) Ending → Type 0
+FollowsInput offset g read old new result = (bytes : List ℕ) × (ended : Bool) × read bytes ended × Follows offset g bytes ended old new result

@@ -165,36 +165,36 @@ HasRoom s t = length t.reported.items ≡ length (output_numbers (shown_graph s.
 
 -- All epochs before the base and the next `done` are complete; the entries are the first batches that were emitted for the epoch after those, `count`
 -- at each output.
-pub record HasReported (s : Shown) (base done : ℕ) (count : (output : ℕ) → ℕ) (records : (epoch input : ℕ) → List Record)
+pub record HasReported (offset : ℕ) (s : Shown) (base done : ℕ) (count : (output : ℕ) → ℕ) (records : (epoch input : ℕ) → List Record)
     (entries : List Entry) (text : List ℕ) : Type 0 where
-  pub reported : IsReport s.graph records (base + done) entries text
+  pub reported : IsReport offset s.graph records (base + done) entries text
   pub within : (k : ℕ) → count k ≤ length (batches_of s k done)
   pub first : (k : ℕ) → records_of k entries ≡ joined (take (count k) (batches_of s k done))
 
 -- these lines of the bytes were taken, and the answer to them is written as far as the board has worked
-pub record IsKnown (g : GraphValue) (s : Shown) (base : ℕ) (x : Intake) (t : Reporting) (bytes pending : List ℕ) : Type 0 where
+pub record IsKnown (offset : ℕ) (g : GraphValue) (s : Shown) (base : ℕ) (x : Intake) (t : Reporting) (bytes pending : List ℕ) : Type 0 where
   pub lines : List (List ℕ)
   pub items : List Item
   pub entries : List Entry
   pub text : List ℕ
   pub graph : s.graph ≡ g
   pub taken : HasTaken s base x (shown_inputs g) bytes pending lines items
-  pub reported : HasReported s base t.done (reported_count t) (said_records items) entries text
+  pub reported : HasReported offset s base t.done (reported_count t) (said_records items) entries text
   pub part : IsPart g (said_records items (base + t.done)) entries
   pub room : HasRoom s t
   pub sealed : t.done ≤ x.begun - 1
   pub none : t.done ≡ x.begun → entries ≡ []
 
 -- the answer to the lines that were taken is written
-pub record IsWritten (g : GraphValue) (s : Shown) (base : ℕ) (x : Intake) (t : Reporting) (bytes pending : List ℕ) (old new : Option (List ℕ)) : Type 0 where
-  pub known : IsKnown g s base x t bytes pending
+pub record IsWritten (offset : ℕ) (g : GraphValue) (s : Shown) (base : ℕ) (x : Intake) (t : Reporting) (bytes pending : List ℕ) (old new : Option (List ℕ)) : Type 0 where
+  pub known : IsKnown offset g s base x t bytes pending
   pub written : Appends old new known.text
 
 -- the same for some bytes and some start
-abbrev pub IsWrittenSo : GraphValue → Shown → Position → (now : Option (List ℕ)) → Type 0
-IsWrittenSo g s p now = (bytes : List ℕ) × (start : Option (List ℕ)) × IsWritten g s p.base p.intake p.reporting bytes p.pending.items start now
+abbrev pub IsWrittenSo : (offset : ℕ) → GraphValue → Shown → Position → (now : Option (List ℕ)) → Type 0
+IsWrittenSo offset g s p now = (bytes : List ℕ) × (start : Option (List ℕ)) × IsWritten offset g s p.base p.intake p.reporting bytes p.pending.items start now
 
 -- the position once these bytes were read: the answer to their lines is written, and what is pending is part of a line
-pub record IsPositionAfter (g : GraphValue) (s : Shown) (p : Position) (bytes : List ℕ) (old new : Option (List ℕ)) : Type 0 where
-  pub written : IsWritten g s p.base p.intake p.reporting bytes p.pending.items old new
+pub record IsPositionAfter (offset : ℕ) (g : GraphValue) (s : Shown) (p : Position) (bytes : List ℕ) (old new : Option (List ℕ)) : Type 0 where
+  pub written : IsWritten offset g s p.base p.intake p.reporting bytes p.pending.items old new
   pub unended : split_on 10 p.pending.items ≡ p.pending.items ∷ []

@@ -151,129 +151,129 @@ pub record Completes (t u : Reporting) : Type 0 where
   pub none : (k : ℕ) → reported_count u k ≡ 0
 
 -- all that was emitted at an output for the first incomplete epoch is written
-pub record ReportsOutput (s : Shown) (base : ℕ) (t u : Reporting) (output : ℕ) (label : List ℕ) (old new : List ℕ) : Type 0 where
+pub record ReportsOutput (offset : ℕ) (s : Shown) (base : ℕ) (t u : Reporting) (output : ℕ) (label : List ℕ) (old new : List ℕ) : Type 0 where
   pub done : u.done ≡ t.done
   pub room : length u.reported.items ≡ length t.reported.items
   pub here : reported_count u output ≡ length (batches_of s output t.done)
   pub others : (k : ℕ) → k ≢ output → reported_count u k ≡ reported_count t k
-  pub lines : new ≡ old ++ flat_map (row_line (base + t.done) label) (joined (drop (reported_count t output) (batches_of s output t.done)))
+  pub lines : new ≡ old ++ flat_map (row_line (offset + (base + t.done)) label) (joined (drop (reported_count t output) (batches_of s output t.done)))
 
 -- more entries were written: at the first n outputs, all that was emitted
-pub record HasReportedMore (s : Shown) (base done n : ℕ) (u : Reporting) (records : (epoch input : ℕ) → List Record)
+pub record HasReportedMore (offset : ℕ) (s : Shown) (base done n : ℕ) (u : Reporting) (records : (epoch input : ℕ) → List Record)
     (entries : List Entry) (text old new : List ℕ) : Type 0 where
   pub more : List Entry
   pub lines : List ℕ
-  pub reported : HasReported s base done (reported_count u) records (entries ++ more) (text ++ lines)
+  pub reported : HasReported offset s base done (reported_count u) records (entries ++ more) (text ++ lines)
   pub appended : new ≡ old ++ lines
   pub all : (k : ℕ) → k < n → IsOutputPlace s k → records_of k (entries ++ more) ≡ emitted_at s k done
 
 -- the same, whatever was written before
-pub record ReportsOutputs (s : Shown) (base n : ℕ) (t u : Reporting) (old new : List ℕ) : Type 0 where
+pub record ReportsOutputs (offset : ℕ) (s : Shown) (base n : ℕ) (t u : Reporting) (old new : List ℕ) : Type 0 where
   pub done : u.done ≡ t.done
   pub room : length u.reported.items ≡ length t.reported.items
   pub more : (records : (epoch input : ℕ) → List Record) (entries : List Entry) (text : List ℕ)
-      → HasReported s base t.done (reported_count t) records entries text → HasReportedMore s base t.done n u records entries text old new
+      → HasReported offset s base t.done (reported_count t) records entries text → HasReportedMore offset s base t.done n u records entries text old new
 
 -- the same at every output
-abbrev pub ReportsOpen : Shown → (base : ℕ) → (t u : Reporting) → (old new : List ℕ) → Type 0
-ReportsOpen s base t u old new = (n : ℕ) × ((k : ℕ) → IsOutputPlace s k → k < n) × ReportsOutputs s base n t u old new
+abbrev pub ReportsOpen : (offset : ℕ) → Shown → (base : ℕ) → (t u : Reporting) → (old new : List ℕ) → Type 0
+ReportsOpen offset s base t u old new = (n : ℕ) × ((k : ℕ) → IsOutputPlace s k → k < n) × ReportsOutputs offset s base n t u old new
 
 -- what was written is an answer to the items, and a whole one for epochs below `sealed`
-pub record HasAnswered (s : Shown) (base : ℕ) (u : Reporting) (items : List Item) (begun sealed : ℕ) (text old new : List ℕ) : Type 0 where
+pub record HasAnswered (offset : ℕ) (s : Shown) (base : ℕ) (u : Reporting) (items : List Item) (begun sealed : ℕ) (text old new : List ℕ) : Type 0 where
   pub entries : List Entry
   pub lines : List ℕ
   pub room : HasRoom s u
-  pub reported : HasReported s base u.done (reported_count u) (said_records items) entries (text ++ lines)
+  pub reported : HasReported offset s base u.done (reported_count u) (said_records items) entries (text ++ lines)
   pub appended : new ≡ old ++ lines
   pub part : IsPart s.graph (said_records items (base + u.done)) entries
   pub order : u.done ≤ sealed
   pub none : u.done ≡ begun → entries ≡ []
 
 -- what must be known of what was written before
-pub record CanReport (s : Shown) (base : ℕ) (t : Reporting) (items : List Item) (begun sealed : ℕ) (entries : List Entry) (text : List ℕ) : Type 0 where
+pub record CanReport (offset : ℕ) (s : Shown) (base : ℕ) (t : Reporting) (items : List Item) (begun sealed : ℕ) (entries : List Entry) (text : List ℕ) : Type 0 where
   pub room : HasRoom s t
-  pub reported : HasReported s base t.done (reported_count t) (said_records items) entries text
+  pub reported : HasReported offset s base t.done (reported_count t) (said_records items) entries text
   pub order : t.done ≤ sealed
   pub none : t.done ≡ begun → entries ≡ []
 
 -- something was reported before, and more can be
-abbrev pub MayReport : Shown → (base : ℕ) → (t : Reporting) → (begun sealed : ℕ) → Type 0
-MayReport s base t begun sealed =
-    (items : List Item) × (entries : List Entry) × (text : List ℕ) × IsAllFed s base items × (sealed ≤ begun) × CanReport s base t items begun sealed entries text
+abbrev pub MayReport : (offset : ℕ) → Shown → (base : ℕ) → (t : Reporting) → (begun sealed : ℕ) → Type 0
+MayReport offset s base t begun sealed =
+    (items : List Item) × (entries : List Entry) × (text : List ℕ) × IsAllFed s base items × (sealed ≤ begun) × CanReport offset s base t items begun sealed entries text
 
 -- from any report that was written before, such an answer is written
-abbrev pub Reports : Shown → (base : ℕ) → (t u : Reporting) → (begun sealed : ℕ) → (old new : List ℕ) → Type 0
-Reports s base t u begun sealed old new =
+abbrev pub Reports : (offset : ℕ) → Shown → (base : ℕ) → (t u : Reporting) → (begun sealed : ℕ) → (old new : List ℕ) → Type 0
+Reports offset s base t u begun sealed old new =
     (items : List Item) (entries : List Entry) (text : List ℕ) → IsAllFed s base items → sealed ≤ begun
-    → CanReport s base t items begun sealed entries text → HasAnswered s base u items begun sealed text old new
+    → CanReport offset s base t items begun sealed entries text → HasAnswered offset s base u items begun sealed text old new
 
 -- ---- answers
 
 -- something was taken and answered before, and more can be
-abbrev pub MayAnswer : Shown → (base : ℕ) → Intake → Reporting → (sealed : ℕ) → Type 0
-MayAnswer s base x u sealed =
-    (items : List Item) × (entries : List Entry) × (text : List ℕ) × IsFed s base x items × CanReport s base u items x.begun sealed entries text
+abbrev pub MayAnswer : (offset : ℕ) → Shown → (base : ℕ) → Intake → Reporting → (sealed : ℕ) → Type 0
+MayAnswer offset s base x u sealed =
+    (items : List Item) × (entries : List Entry) × (text : List ℕ) × IsFed s base x items × CanReport offset s base u items x.begun sealed entries text
 
 -- what waited was fed and worked off, and this is to be written; the epochs before the last one may be complete
-pub record IsOpenAnswer (base : ℕ) (t : Shown) (x y : Intake) (v : Reporting) (items : List Item) (text out : List ℕ) (s : Shown) : Type 0 where
+pub record IsOpenAnswer (offset : ℕ) (base : ℕ) (t : Shown) (x y : Intake) (v : Reporting) (items : List Item) (text out : List ℕ) (s : Shown) : Type 0 where
   pub graph : t.graph ≡ s.graph
   pub holds : Holds x y
   pub fed : IsFed t base y items
-  pub reported : HasAnswered t base v items x.begun (x.begun - 1) text [] out
+  pub reported : HasAnswered offset t base v items x.begun (x.begun - 1) text [] out
 
 -- the same, whatever was taken and written before
-abbrev pub AnswersOpen : (base : ℕ) → (s t : Shown) → (x y : Intake) → (u v : Reporting) → (out : List ℕ) → Type 0
-AnswersOpen base s t x y u v out =
+abbrev pub AnswersOpen : (offset : ℕ) → (base : ℕ) → (s t : Shown) → (x y : Intake) → (u v : Reporting) → (out : List ℕ) → Type 0
+AnswersOpen offset base s t x y u v out =
     (items : List Item) (entries : List Entry) (text : List ℕ) → IsFed s base x items
-    → CanReport s base u items x.begun (x.begun - 1) entries text → IsOpenAnswer base t x y v items text out s
+    → CanReport offset s base u items x.begun (x.begun - 1) entries text → IsOpenAnswer offset base t x y v items text out s
 
 -- at the end of the input every epoch is complete
-pub record IsLastAnswer (base : ℕ) (t : Shown) (x : Intake) (v : Reporting) (items : List Item) (text out : List ℕ) (s : Shown) : Type 0 where
+pub record IsLastAnswer (offset : ℕ) (base : ℕ) (t : Shown) (x : Intake) (v : Reporting) (items : List Item) (text out : List ℕ) (s : Shown) : Type 0 where
   pub graph : t.graph ≡ s.graph
   pub complete : v.done ≡ x.begun
-  pub reported : HasAnswered t base v items x.begun x.begun text [] out
+  pub reported : HasAnswered offset t base v items x.begun x.begun text [] out
 
 -- the same, whatever was taken and written before
-abbrev pub AnswersLast : (base : ℕ) → (s t : Shown) → (x : Intake) → (u v : Reporting) → (out : List ℕ) → Type 0
-AnswersLast base s t x u v out =
+abbrev pub AnswersLast : (offset : ℕ) → (base : ℕ) → (s t : Shown) → (x : Intake) → (u v : Reporting) → (out : List ℕ) → Type 0
+AnswersLast offset base s t x u v out =
     (items : List Item) (entries : List Entry) (text : List ℕ) → IsFed s base x items
-    → CanReport s base u items x.begun x.begun entries text → IsLastAnswer base t x v items text out s
+    → CanReport offset s base u items x.begun x.begun entries text → IsLastAnswer offset base t x v items text out s
 
 -- ---- the whole
 
 -- how far lines were taken and answered, or how following ended there
-abbrev pub HasFollowedLines : GraphValue → (bytes : List ℕ) → (ended : Bool) → (start new : Option (List ℕ)) → Shown → Position → Result Taken Ending → Type 0
-HasFollowedLines g bytes ended start new s p (Ok how) =
-    (w : IsWritten g s p.base p.intake p.reporting bytes p.pending.items start new)
+abbrev pub HasFollowedLines : (offset : ℕ) → GraphValue → (bytes : List ℕ) → (ended : Bool) → (start new : Option (List ℕ)) → Shown → Position → Result Taken Ending → Type 0
+HasFollowedLines offset g bytes ended start new s p (Ok how) =
+    (w : IsWritten offset g s p.base p.intake p.reporting bytes p.pending.items start new)
     × Stops (shown_inputs g) bytes p.pending.items (length w.known.lines) w.known.items how
-HasFollowedLines g bytes ended start new s p (Err e) = Follows g bytes ended start new (Err e)
+HasFollowedLines offset g bytes ended start new s p (Err e) = Follows offset g bytes ended start new (Err e)
 
 -- the same, whatever was taken before
-abbrev pub FollowsLines : List Input → (s t : Shown) → (p q : Position) → (old new : Option (List ℕ)) → Result Taken Ending → Type 0
-FollowsLines inputs s t p q old new result =
+abbrev pub FollowsLines : (offset : ℕ) → List Input → (s t : Shown) → (p q : Position) → (old new : Option (List ℕ)) → Result Taken Ending → Type 0
+FollowsLines offset inputs s t p q old new result =
     (g : GraphValue) (bytes : List ℕ) (ended : Bool) (start : Option (List ℕ)) → inputs ≡ shown_inputs g
-    → IsWritten g s p.base p.intake p.reporting bytes p.pending.items start old → HasFollowedLines g bytes ended start new t q result
+    → IsWritten offset g s p.base p.intake p.reporting bytes p.pending.items start old → HasFollowedLines offset g bytes ended start new t q result
 
 -- when an epoch has just begun, a new board may replace the old one
-abbrev pub Renews : GraphValue → (s t : Shown) → (p q : Position) → Type 0
-Renews g s t p q =
-    (bytes : List ℕ) (start now : Option (List ℕ)) (w : IsWritten g s p.base p.intake p.reporting bytes p.pending.items start now)
-    → EndsInEpoch w.known.items → IsWritten g t q.base q.intake q.reporting bytes q.pending.items start now
+abbrev pub Renews : (offset : ℕ) → GraphValue → (s t : Shown) → (p q : Position) → Type 0
+Renews offset g s t p q =
+    (bytes : List ℕ) (start now : Option (List ℕ)) (w : IsWritten offset g s p.base p.intake p.reporting bytes p.pending.items start now)
+    → EndsInEpoch w.known.items → IsWritten offset g t q.base q.intake q.reporting bytes q.pending.items start now
 
 -- following goes on, or ends
-abbrev pub GoesOn : GraphValue → (bytes : List ℕ) → (ended : Bool) → (start new : Option (List ℕ)) → Shown → Position → Result (Unit {0}) Ending → Type 0
-GoesOn g bytes ended start new s p (Ok _) = IsPositionAfter g s p bytes start new
-GoesOn g bytes ended start new s p (Err e) = Follows g bytes ended start new (Err e)
+abbrev pub GoesOn : (offset : ℕ) → GraphValue → (bytes : List ℕ) → (ended : Bool) → (start new : Option (List ℕ)) → Shown → Position → Result (Unit {0}) Ending → Type 0
+GoesOn offset g bytes ended start new s p (Ok _) = IsPositionAfter offset g s p bytes start new
+GoesOn offset g bytes ended start new s p (Err e) = Follows offset g bytes ended start new (Err e)
 
 -- the same after a piece, from any position
-abbrev pub FollowsPiece : GraphValue → (s t : Shown) → (p q : Position) → (piece : List ℕ)
+abbrev pub FollowsPiece : (offset : ℕ) → GraphValue → (s t : Shown) → (p q : Position) → (piece : List ℕ)
     → (old new : Option (List ℕ)) → Result (Unit {0}) Ending → Type 0
-FollowsPiece g s t p q piece old new result =
-    (bytes : List ℕ) (ended : Bool) (start : Option (List ℕ)) → IsPositionAfter g s p bytes start old
-    → GoesOn g (bytes ++ piece) ended start new t q result
+FollowsPiece offset g s t p q piece old new result =
+    (bytes : List ℕ) (ended : Bool) (start : Option (List ℕ)) → IsPositionAfter offset g s p bytes start old
+    → GoesOn offset g (bytes ++ piece) ended start new t q result
 
 -- following ends when the reader has ended
-abbrev pub FollowsEnd : Shown → Position → (old new : Option (List ℕ)) → Result (Unit {0}) Ending → Type 0
-FollowsEnd s p old new result =
+abbrev pub FollowsEnd : (offset : ℕ) → Shown → Position → (old new : Option (List ℕ)) → Result (Unit {0}) Ending → Type 0
+FollowsEnd offset s p old new result =
     (g : GraphValue) (bytes : List ℕ) (ended : Bool) (start : Option (List ℕ)) → ended ≡ true
-    → IsPositionAfter g s p bytes start old → Follows g bytes ended start new result
+    → IsPositionAfter offset g s p bytes start old → Follows offset g bytes ended start new result

@@ -7,6 +7,7 @@ ghost use Rattle.follow.specs.Steps.{AnswersLast, AnswersOpen, MayAnswer};
 
 use crate::board_calls::close_inputs;
 use crate::intake::{Intake, feed_portion};
+use crate::numbering::Numbering;
 use crate::outcome::Halt;
 use crate::reporting::{Reporting, report};
 use crate::rounds::work_off;
@@ -22,13 +23,13 @@ pub fn answer_open<V: Views, R: Threads + Sync>(
     alloc: Global,
     records: u64,
     board: &mut Board<V>,
-    base: u32,
+    numbering: Numbering,
     intake: &mut Intake,
     reporting: &mut Reporting,
 ) -> Result<Vec<u8>, Halt>
-    requires may { MayAnswer board.old.shown base intake.old reporting.old (intake.old.begun - 1) }
-    requires few { base + intake.old.begun ≤ max_epochs }
-    ensures answers { IfOk result (λ out. AnswersOpen base board.old.shown board.new.shown intake.old intake.new reporting.old reporting.new out.items) }
+    requires may { MayAnswer numbering.first.number board.old.shown numbering.base intake.old reporting.old (intake.old.begun - 1) }
+    requires few { numbering.base + intake.old.begun ≤ max_epochs }
+    ensures answers { IfOk result (λ out. AnswersOpen numbering.first.number numbering.base board.old.shown board.new.shown intake.old intake.new reporting.old reporting.new out.items) }
     ensures rests { OnOk result (IsWorkedOff board.new.shown) }
     ensures line { OnOk result (intake.new.line ≡ intake.old.line) }
 {
@@ -36,7 +37,7 @@ pub fn answer_open<V: Views, R: Threads + Sync>(
     work_off(rt, alloc, records, board)?;
     let mut out = Vec::new(alloc);
     let sealed = intake.begun.saturating_sub(1);
-    report(board, base, reporting, intake.begun, sealed, &mut out)?;
+    report(board, numbering, reporting, intake.begun, sealed, &mut out)?;
     Ok(out)
 }
 
@@ -45,20 +46,27 @@ pub fn answer_last<V: Views, R: Threads + Sync>(
     rt: &R,
     alloc: Global,
     board: &mut Board<V>,
-    base: u32,
+    numbering: Numbering,
     intake: &mut Intake,
     reporting: &mut Reporting,
 ) -> Result<Vec<u8>, Halt>
     requires prompt { V.late ≡ false }
-    requires may { MayAnswer board.old.shown base intake.old reporting.old intake.old.begun }
-    requires few { base + intake.old.begun ≤ max_epochs }
-    ensures { IfOk result (λ out. AnswersLast base board.old.shown board.new.shown intake.old reporting.old reporting.new out.items) }
+    requires may { MayAnswer numbering.first.number board.old.shown numbering.base intake.old reporting.old intake.old.begun }
+    requires few { numbering.base + intake.old.begun ≤ max_epochs }
+    ensures { IfOk result (λ out. AnswersLast numbering.first.number numbering.base board.old.shown board.new.shown intake.old reporting.old reporting.new out.items) }
 {
     feed_portion(alloc, board, intake)?;
     close_inputs(board);
     work_off(rt, alloc, HEAVY, board)?;
     board.law_prompt();
     let mut out = Vec::new(alloc);
-    report(board, base, reporting, intake.begun, intake.begun, &mut out)?;
+    report(
+        board,
+        numbering,
+        reporting,
+        intake.begun,
+        intake.begun,
+        &mut out,
+    )?;
     Ok(out)
 }

@@ -15,7 +15,7 @@ use std::alloc::AllocError;
 /// Appends the line of a record `count` times.
 fn push_times(
     out: &mut Vec<u8>,
-    epoch: u32,
+    epoch: u64,
     plain: bool,
     name: &Name,
     row: &[i64],
@@ -32,7 +32,7 @@ fn push_times(
 /// Appends the lines of a batch's records, each as often as its count.
 fn push_batch(
     out: &mut Vec<u8>,
-    epoch: u32,
+    epoch: u64,
     plain: bool,
     name: &Name,
     batch: &Batch,
@@ -55,7 +55,7 @@ fn push_batch(
 /// Appends the lines of the records of batches.
 pub fn push_batches(
     out: &mut Vec<u8>,
-    epoch: u32,
+    epoch: u64,
     plain: bool,
     name: &Name,
     batches: &[Batch],

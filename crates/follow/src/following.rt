@@ -17,6 +17,7 @@ ghost use Rattle.follow.specs.declared.line_stop.Taken.TheVariants as taken;
 use crate::answering::{answer_last, answer_open};
 use crate::intake::{Intake, take_lines};
 use crate::line_stop::Taken;
+use crate::numbering::{FirstEpoch, Numbering};
 use crate::outcome::{Ending, Halt};
 use crate::position::Position;
 use crate::renewing::{LINES, Plan, renew};
@@ -87,14 +88,15 @@ fn lines_of_epoch(intake: &Intake, begun: u32, line: u64) -> u64 {
 fn follow_lines<V: Views, R: Threads + Sync, W: Write>(
     rt: &R,
     alloc: Global,
+    first: FirstEpoch,
     inputs: &[DeclaredInput],
     board: &mut Board<V>,
     position: &mut Position,
     writer: &mut Watched<W>,
 ) -> Result<Taken, Ending>
-    requires known { (g : GraphValue) × (map input_of inputs.now ≡ shown_inputs g) × IsWrittenSo g board.old.shown position.old (W.contents (inner_of writer.old)) }
+    requires known { (g : GraphValue) × (map input_of inputs.now ≡ shown_inputs g) × IsWrittenSo first.number g board.old.shown position.old (W.contents (inner_of writer.old)) }
     requires few { position.old.intake.line + length position.old.pending.items < 18446744073709551615 }
-    ensures follows { FollowsLines (map input_of inputs.now) board.old.shown board.new.shown position.old position.new
+    ensures follows { FollowsLines first.number (map input_of inputs.now) board.old.shown board.new.shown position.old position.new
         (W.contents (inner_of writer.old)) (W.contents (inner_of writer.new)) result }
     ensures shorter { IfOk result (λ how. how ≡ taken.Epoch → length position.new.pending.items < length position.old.pending.items) }
     ensures counted { OnOk result (position.new.intake.line + length position.new.pending.items ≤ position.old.intake.line + length position.old.pending.items) }
@@ -122,7 +124,7 @@ fn follow_lines<V: Views, R: Threads + Sync, W: Write>(
         alloc,
         records,
         board,
-        base,
+        Numbering { first, base },
         &mut position.intake,
         &mut position.reporting,
     ) {
@@ -146,9 +148,9 @@ fn follow_piece<R: Threads + Sync, W: Write>(
     writer: &mut Watched<W>,
 ) -> Result<(), Ending>
     requires rests { IsWorkedOff board.old.shown }
-    requires known { IsWrittenSo plan.now.graph.value board.old.shown position.old (W.contents (inner_of writer.old)) }
+    requires known { IsWrittenSo plan.now.first.number plan.now.graph.value board.old.shown position.old (W.contents (inner_of writer.old)) }
     requires few { position.old.intake.line + length position.old.pending.items + length piece.now < 18446744073709551615 }
-    ensures follows { FollowsPiece plan.now.graph.value board.old.shown board.new.shown position.old position.new piece.now
+    ensures follows { FollowsPiece plan.now.first.number plan.now.graph.value board.old.shown board.new.shown position.old position.new piece.now
         (W.contents (inner_of writer.old)) (W.contents (inner_of writer.new)) result }
     ensures counted { OnOk result (position.new.intake.line + length position.new.pending.items ≤
         position.old.intake.line + length position.old.pending.items + length piece.now) }
@@ -164,7 +166,7 @@ fn follow_piece<R: Threads + Sync, W: Write>(
     }
     let inputs = plan.graph.inputs();
     'boards: loop {
-        match follow_lines(rt, alloc, inputs, board, position, writer) {
+        match follow_lines(rt, alloc, plan.first, inputs, board, position, writer) {
             Ok(Taken::Whole) => return Ok(()),
             Ok(Taken::Fault(code)) => return Err(ending_at_fault(&position.intake, code)),
             Ok(Taken::Epoch) => match renew(alloc, plan, board, position) {
@@ -180,14 +182,15 @@ fn follow_piece<R: Threads + Sync, W: Write>(
 fn follow_end<V: Views, R: Threads + Sync, W: Write>(
     rt: &R,
     alloc: Global,
+    first: FirstEpoch,
     board: &mut Board<V>,
     position: &mut Position,
     writer: &mut Watched<W>,
 ) -> Result<(), Ending>
     requires prompt { V.late ≡ false }
-    requires known { (g : GraphValue) × IsWrittenSo g board.old.shown position.old (W.contents (inner_of writer.old)) }
+    requires known { (g : GraphValue) × IsWrittenSo first.number g board.old.shown position.old (W.contents (inner_of writer.old)) }
     requires few { position.old.intake.line + length position.old.pending.items < 18446744073709551615 }
-    ensures follows { FollowsEnd board.old.shown position.old (W.contents (inner_of writer.old)) (W.contents (inner_of writer.new)) result }
+    ensures follows { FollowsEnd first.number board.old.shown position.old (W.contents (inner_of writer.old)) (W.contents (inner_of writer.new)) result }
     ensures writer { IsErrOf result ending.Write → has_failed writer.new ≡ true }
     ensures reader { IsErrOf result ending.Read → ⊥ }
 {
@@ -199,7 +202,7 @@ fn follow_end<V: Views, R: Threads + Sync, W: Write>(
         rt,
         alloc,
         board,
-        base,
+        Numbering { first, base },
         &mut position.intake,
         &mut position.reporting,
     ) {
@@ -223,10 +226,10 @@ fn follow_pieces<T: Threads + Sync, R: Read, W: Write>(
     writer: &mut Watched<W>,
 ) -> Result<(), Ending>
     requires rests { IsWorkedOff board.old.shown }
-    requires first { IsPositionAfter plan.now.graph.value board.old.shown position.old []
+    requires first { IsPositionAfter plan.now.first.number plan.now.graph.value board.old.shown position.old []
         (W.contents (inner_of writer.old)) (W.contents (inner_of writer.old)) }
     requires none { position.old.intake.line + length position.old.pending.items ≡ 0 }
-    ensures follows { FollowsInput plan.now.graph.value
+    ensures follows { FollowsInput plan.now.first.number plan.now.graph.value
         (HasRead R.remaining reader.old reader.new) (W.contents (inner_of writer.old)) (W.contents (inner_of writer.new)) result }
     ensures reader { IsErrOf result ending.Read → has_failed reader.new ≡ true }
     ensures writer { IsErrOf result ending.Write → has_failed writer.new ≡ true }
@@ -238,7 +241,7 @@ fn follow_pieces<T: Threads + Sync, R: Read, W: Write>(
             return Err(Ending::Read);
         };
         if count == 0 {
-            return follow_end(rt, alloc, board, position, writer);
+            return follow_end(rt, alloc, plan.first, board, position, writer);
         }
         let Some(left) = room.checked_sub(count as u64) else {
             return Err(Ending::TooLong);
@@ -251,18 +254,31 @@ fn follow_pieces<T: Threads + Sync, R: Read, W: Write>(
     }
 }
 
+/// How many workers compute, and what the first epoch is called.
+#[derive(Clone, Copy)]
+pub struct Manner {
+    pub workers: WorkerCount,
+    pub first: FirstEpoch,
+}
+
 /// A new board over the graph, and the plan for further ones.
 fn open_board(
     alloc: Global,
-    workers: WorkerCount,
+    manner: Manner,
     graph: Graph,
 ) -> Result<(Plan, Board<Direct<LocationTracker>>), Halt>
     ensures same { IfOk result (λ p. p.0.graph.value ≡ graph) }
+    ensures first { IfOk result (λ p. p.0.first ≡ manner.first) }
     ensures opening { IfOk result (λ p. IsOpening p.0.graph.value p.0.workers.count p.1.shown) }
     ensures shows { IfOk result (λ p. Shows p.1.shown opening) }
 {
     let graph = Arc::new(alloc, graph)?;
-    let plan = Plan { graph, workers };
+    let Manner { workers, first } = manner;
+    let plan = Plan {
+        graph,
+        workers,
+        first,
+    };
     let board = plan.new_board(alloc)?;
     Ok((plan, board))
 }
@@ -279,7 +295,7 @@ fn follow_graph<T: Threads + Sync, R: Read, W: Write>(
 ) -> Result<Result<(), Ending>, Halt>
     requires opening { IsOpening plan.now.graph.value plan.now.workers.count board.old.shown }
     requires shows { Shows board.old.shown opening }
-    ensures follows { IfOk result (λ r. FollowsInput plan.now.graph.value
+    ensures follows { IfOk result (λ r. FollowsInput plan.now.first.number plan.now.graph.value
         (HasRead R.remaining reader.old reader.new) (W.contents (inner_of writer.old)) (W.contents (inner_of writer.new)) r) }
     ensures reader { IfOk result (λ r. IsErrOf r ending.Read → has_failed reader.new ≡ true) }
     ensures writer { IfOk result (λ r. IsErrOf r ending.Write → has_failed writer.new ≡ true) }
@@ -299,23 +315,24 @@ fn follow_graph<T: Threads + Sync, R: Read, W: Write>(
 /// it reads more. With several workers, large events are computed by a thread each.
 ///
 /// The records of the first epoch that isn't complete are written as they come, and the line that says that it is complete once it has passed at
-/// every output. At `Ok` every epoch is complete. What was written before a fault stays true: it is an answer to the lines before the fault. The
-/// bytes read after the last line that was taken are left in `rest`; at a fault they begin with the faulty line.
+/// every output. Epochs are called by their numbers, counted from that of the first. At `Ok` every epoch is complete. What was written before a fault
+/// stays true: it is an answer to the lines before the fault. The bytes read after the last line that was taken are left in `rest`; at a fault they
+/// begin with the faulty line.
 pub fn follow<T: Threads + Sync, R: Read, W: Write>(
     rt: &T,
     alloc: Global,
-    workers: WorkerCount,
+    manner: Manner,
     graph: Graph,
     reader: &mut Watched<R>,
     rest: &mut Vec<u8>,
     writer: &mut Watched<W>,
 ) -> Result<(), Ending>
-    ensures follows { FollowsInput graph
+    ensures follows { FollowsInput manner.first.number graph
         (HasRead R.remaining reader.old reader.new) (W.contents (inner_of writer.old)) (W.contents (inner_of writer.new)) result }
     ensures reader { IsErrOf result ending.Read → has_failed reader.new ≡ true }
     ensures writer { IsErrOf result ending.Write → has_failed writer.new ≡ true }
 {
-    let (plan, mut board) = match open_board(alloc, workers, graph) {
+    let (plan, mut board) = match open_board(alloc, manner, graph) {
         Ok(pair) => pair,
         Err(halt) => return Err(halt.ending()),
     };

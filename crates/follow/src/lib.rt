@@ -20,6 +20,7 @@ mod following;
 mod intake;
 mod line_stop;
 mod line_texts;
+mod numbering;
 mod outcome;
 mod position;
 mod renewing;
@@ -28,6 +29,7 @@ mod rounds;
 mod slot;
 mod worker_count;
 
-pub use following::follow;
+pub use following::{Manner, follow};
+pub use numbering::FirstEpoch;
 pub use outcome::Ending;
 pub use worker_count::WorkerCount;

@@ -16,7 +16,7 @@ fn push_text(out: &mut Vec<u8>, text: &[u8]) -> Result<(), AllocError>
 }
 
 /// Appends an epoch's number.
-fn push_epoch(out: &mut Vec<u8>, epoch: u32) -> Result<(), AllocError>
+fn push_epoch(out: &mut Vec<u8>, epoch: u64) -> Result<(), AllocError>
     ensures { OnOk result (out.new.items ≡ out.old.items ++ decimal epoch) }
 {
     let mut buffer = Buffer::new();
@@ -56,7 +56,7 @@ fn push_label(out: &mut Vec<u8>, plain: bool, name: &Name) -> Result<(), AllocEr
 /// Appends the line of a record of an epoch.
 pub fn push_row(
     out: &mut Vec<u8>,
-    epoch: u32,
+    epoch: u64,
     plain: bool,
     name: &Name,
     row: &[i64],
@@ -70,7 +70,7 @@ pub fn push_row(
 }
 
 /// Appends the line of a complete epoch.
-pub fn push_complete(out: &mut Vec<u8>, epoch: u32) -> Result<(), AllocError>
+pub fn push_complete(out: &mut Vec<u8>, epoch: u64) -> Result<(), AllocError>
     ensures { OnOk result (out.new.items ≡ out.old.items ++ complete_line epoch) }
 {
     push_text(out, b"complete ")?;

@@ -7,6 +7,7 @@ ghost use Rattle.board.specs.Showing.{Shows};
 ghost use Rattle.collector.specs.Lines.{max_epochs};
 ghost use Rattle.follow.specs.Steps.{Renews};
 
+use crate::numbering::FirstEpoch;
 use crate::outcome::Halt;
 use crate::position::Position;
 use crate::worker_count::WorkerCount;
@@ -20,11 +21,12 @@ use views::Direct;
 /// The number of lines that a board takes, before the epoch that is open then is finished on it.
 pub const LINES: u64 = 16_384;
 
-/// What each board is made of.
+/// What each board is made of, and what the first epoch is called.
 #[derive(Drop)]
 pub struct Plan {
     pub graph: Arc<Graph, Global>,
     pub workers: WorkerCount,
+    pub first: FirstEpoch,
 }
 
 impl Plan {
@@ -47,7 +49,7 @@ pub fn renew(
     position: &mut Position,
 ) -> Result<(), Halt>
     requires few { position.old.base + position.old.intake.begun ≤ max_epochs }
-    ensures renews { OnOk result (Renews plan.now.graph.value board.old.shown board.new.shown position.old position.new) }
+    ensures renews { OnOk result (Renews plan.now.first.number plan.now.graph.value board.old.shown board.new.shown position.old position.new) }
     ensures pending { position.new.pending ≡ position.old.pending }
     ensures line { position.new.intake.line ≡ position.old.intake.line }
 {

@@ -11,6 +11,7 @@ ghost use Rattle.follow.specs.Steps.{Completes, IsFresh, MayReport, Reports, Rep
 
 use crate::batches::push_batches;
 use crate::line_texts::push_complete;
+use crate::numbering::Numbering;
 use crate::outcome::Halt;
 use board::Board;
 use graph::GraphOutput;
@@ -90,7 +91,7 @@ fn has_passed<V: Views>(board: &Board<V>, epoch: u32) -> bool
 /// Appends the lines of what was emitted at an output for the first incomplete epoch and wasn't written yet.
 fn report_output<V: Views>(
     board: &Board<V>,
-    base: u32,
+    numbering: Numbering,
     reporting: &mut Reporting,
     output: u32,
     plain: bool,
@@ -100,13 +101,13 @@ fn report_output<V: Views>(
     requires there { IsOutputPlace board.now.shown output }
     requires room { HasRoom board.now.shown reporting.old }
     requires within { reported_count reporting.old output ≤ length (batches_of board.now.shown output reporting.old.done) }
-    requires few { base + reporting.old.done ≤ max_epochs }
-    ensures { OnOk result (ReportsOutput board.now.shown base reporting.old reporting.new output (label_of plain name.now) out.old.items out.new.items) }
+    requires few { numbering.base + reporting.old.done ≤ max_epochs }
+    ensures { OnOk result (ReportsOutput numbering.first.number board.now.shown numbering.base reporting.old reporting.new output (label_of plain name.now) out.old.items out.new.items) }
 {
     let place = output as usize;
     let batches = board.emitted(output, reporting.done);
     let reported = reporting.reported[place];
-    let epoch = base + reporting.done;
+    let epoch = numbering.number(reporting.done);
     push_batches(out, epoch, plain, name, &batches[reported..])?;
     reporting.reported[place] = batches.len();
     Ok(())
@@ -115,50 +116,50 @@ fn report_output<V: Views>(
 /// Appends the lines of what was emitted at each output for the first incomplete epoch and wasn't written yet.
 fn report_open<V: Views>(
     board: &Board<V>,
-    base: u32,
+    numbering: Numbering,
     reporting: &mut Reporting,
     out: &mut Vec<u8>,
 ) -> Result<(), Halt>
     requires room { HasRoom board.now.shown reporting.old }
     requires within { IsWithin board.now.shown reporting.old }
-    requires few { base + reporting.old.done ≤ max_epochs }
-    ensures { OnOk result (ReportsOpen board.now.shown base reporting.old reporting.new out.old.items out.new.items) }
+    requires few { numbering.base + reporting.old.done ≤ max_epochs }
+    ensures { OnOk result (ReportsOpen numbering.first.number board.now.shown numbering.base reporting.old reporting.new out.old.items out.new.items) }
 {
     let outputs = board.graph().outputs();
     let plain = are_plain(outputs);
     for output in 0..board.output_count() {
         let name = &outputs[output as usize].name;
-        report_output(board, base, reporting, output, plain, name, out)?;
+        report_output(board, numbering, reporting, output, plain, name, out)?;
     }
     Ok(())
 }
 
 /// Appends what can be written: the board's epochs in order, up to the first that isn't complete. An epoch below `sealed` is complete once it has
-/// passed. The board's epoch 0 is the input's epoch `base`.
+/// passed.
 pub fn report<V: Views>(
     board: &Board<V>,
-    base: u32,
+    numbering: Numbering,
     reporting: &mut Reporting,
     begun: u32,
     sealed: u32,
     out: &mut Vec<u8>,
 ) -> Result<(), Halt>
-    requires may { MayReport board.now.shown base reporting.old begun sealed }
-    requires few { base + begun ≤ max_epochs }
-    ensures reports { OnOk result (Reports board.now.shown base reporting.old reporting.new begun sealed out.old.items out.new.items) }
+    requires may { MayReport numbering.first.number board.now.shown numbering.base reporting.old begun sealed }
+    requires few { numbering.base + begun ≤ max_epochs }
+    ensures reports { OnOk result (Reports numbering.first.number board.now.shown numbering.base reporting.old reporting.new begun sealed out.old.items out.new.items) }
     ensures all { OnOk result (IsUpToDate board.now 0 → ((epoch : ℕ) → HasPassedAtAll board.now.shown epoch) → sealed ≡ begun →
         reporting.old.done ≤ begun → reporting.new.done ≡ begun) }
 {
     board.law_headline();
     for epoch in reporting.done..begun {
-        report_open(board, base, reporting, out)?;
+        report_open(board, numbering, reporting, out)?;
         if epoch >= sealed {
             return Ok(());
         }
         if !has_passed(board, epoch) {
             return Ok(());
         }
-        push_complete(out, base + epoch)?;
+        push_complete(out, numbering.number(epoch))?;
         reporting.complete();
     }
     Ok(())

@@ -3,7 +3,7 @@
 ghost use Rattle.std.specs.Prelude.{◌<◌, ◌≤◌};
 
 use collector::Watched;
-use follow::{Ending, WorkerCount, follow};
+use follow::{Ending, FirstEpoch, Manner, WorkerCount, follow};
 use graph::Graph;
 use lowering::lower;
 use parser::parse;
@@ -33,15 +33,11 @@ pub fn ended_by<R: Read, W: Write>(
     requires few { workers ≤ 64 }
 {
     let mut rest = Vec::new(alloc);
-    follow(
-        threads,
-        alloc,
-        WorkerCount::new(workers),
-        graph,
-        reader,
-        &mut rest,
-        out,
-    )
+    let manner = Manner {
+        workers: WorkerCount::new(workers),
+        first: FirstEpoch::new(0),
+    };
+    follow(threads, alloc, manner, graph, reader, &mut rest, out)
 }
 
 /// A reader that gives a text, at most `most` bytes at a time, and fails after `left` reads.

@@ -23,9 +23,9 @@ follow_pieces-ended-requires-clause-first g c κs within =
     let first = c.in_ok-position.ensures in
     let start = g.W.Write.contents (inner_of c.args.writer.now) in
     let inputs : map input_of c.inputs-inputs.result.now ≡ shown_inputs graph = c.inputs-inputs.ensures ∙ ap shown_inputs c.deref-2.ensures in
-    let at_first = opened graph c.args.plan.now.workers.count c.args.board.now.shown p.base p.intake p.reporting start c.requires.opening c.requires.shows first.base (subst (λ (is : List Input). IsNew is p.intake) inputs first.new) (first.room ∙ c.output_count.ensures) first.fresh in
+    let at_first = opened c.args.plan.now.first.number graph c.args.plan.now.workers.count c.args.board.now.shown p.base p.intake p.reporting start c.requires.opening c.requires.shows first.base (subst (λ (is : List Input). IsNew is p.intake) inputs first.new) (first.room ∙ c.output_count.ensures) first.fresh in
     record {
-      written = subst (λ (xs : List ℕ). IsWritten graph c.args.board.now.shown p.base p.intake p.reporting [] xs start start) (sym first.none) at_first;
+      written = subst (λ (xs : List ℕ). IsWritten c.args.plan.now.first.number graph c.args.board.now.shown p.base p.intake p.reporting [] xs start start) (sym first.none) at_first;
       unended = subst (λ (xs : List ℕ). split_on 10 xs ≡ xs ∷ []) (sym first.none) refl;
     }
 

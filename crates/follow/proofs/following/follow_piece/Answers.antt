@@ -18,8 +18,8 @@ pub returns-then-is_err-clause-follows : goal.returns-then-is_err-clause-follows
 returns-then-is_err-clause-follows g c = λ bytes ended start st.
     let p = c.args.position.now in
     let now = g.W.Write.contents (inner_of c.args.writer.now) in
-    let w = more_pending c.args.plan.now.graph.value c.args.board.now.shown p.base p.intake p.reporting bytes p.pending.items c.args.piece.now start now st.written in
-    halted c.args.plan.now.graph.value c.args.board.now.shown p.base p.intake p.reporting (bytes ++ c.args.piece.now) (p.pending.items ++ c.args.piece.now) ended start now halt.NoMemory w
+    let w = more_pending c.args.plan.now.first.number c.args.plan.now.graph.value c.args.board.now.shown p.base p.intake p.reporting bytes p.pending.items c.args.piece.now start now st.written in
+    halted c.args.plan.now.first.number c.args.plan.now.graph.value c.args.board.now.shown p.base p.intake p.reporting (bytes ++ c.args.piece.now) (p.pending.items ++ c.args.piece.now) ended start now halt.NoMemory w
 
 pub returns-then-is_none-clause-follows : goal.returns-then-is_none-clause-follows
 returns-then-is_none-clause-follows g c = λ bytes ended start st.
@@ -27,9 +27,9 @@ returns-then-is_none-clause-follows g c = λ bytes ended start st.
     let now = g.W.Write.contents (inner_of c.args.writer.now) in
     let text : c.extend_from_slice.new.self.items ≡ p.pending.items ++ c.args.piece.now = ok_items c.extend_from_slice.result c.is_err.result c.extend_from_slice.new.self.items (p.pending.items ++ c.args.piece.now) p.pending.items c.is_err.ensures.value c.if-is_err.false c.extend_from_slice.ensures.items in
     let none = split_none 10 c.args.piece.now (none_of c.find.result c.is_none.result c.is_none.ensures c.if-is_none.true c.find.ensures.none) in
-    let w = more_pending c.args.plan.now.graph.value c.args.board.now.shown p.base p.intake p.reporting bytes p.pending.items c.args.piece.now start now st.written in
+    let w = more_pending c.args.plan.now.first.number c.args.plan.now.graph.value c.args.board.now.shown p.base p.intake p.reporting bytes p.pending.items c.args.piece.now start now st.written in
     record {
-      written = subst (λ (xs : List ℕ). IsWritten c.args.plan.now.graph.value c.args.board.now.shown p.base p.intake p.reporting (bytes ++ c.args.piece.now) xs start now) (sym text) w;
+      written = subst (λ (xs : List ℕ). IsWritten c.args.plan.now.first.number c.args.plan.now.graph.value c.args.board.now.shown p.base p.intake p.reporting (bytes ++ c.args.piece.now) xs start now) (sym text) w;
       unended = subst (λ (xs : List ℕ). split_on 10 xs ≡ xs ∷ []) (sym text) (unended_both p.pending.items c.args.piece.now st.unended none);
     }
 
@@ -41,8 +41,8 @@ boards-init g c =
     let piece = c.args.piece.now in
     let now = g.W.Write.contents (inner_of c.args.writer.now) in
     let text : c.extend_from_slice.new.self.items ≡ p.pending.items ++ piece = ok_items c.extend_from_slice.result c.is_err.result c.extend_from_slice.new.self.items (p.pending.items ++ piece) p.pending.items c.is_err.ensures.value c.if-is_err.false c.extend_from_slice.ensures.items in
-    let more : (bytes : List ℕ) (start : Option (List ℕ)) → IsWritten h s p.base p.intake p.reporting bytes p.pending.items start now → IsWritten h s p.base p.intake p.reporting (bytes ++ piece) c.extend_from_slice.new.self.items start now =
-    λ bytes start w. subst (λ (xs : List ℕ). IsWritten h s p.base p.intake p.reporting (bytes ++ piece) xs start now) (sym text) (more_pending h s p.base p.intake p.reporting bytes p.pending.items piece start now w) in
+    let more : (bytes : List ℕ) (start : Option (List ℕ)) → IsWritten c.args.plan.now.first.number h s p.base p.intake p.reporting bytes p.pending.items start now → IsWritten c.args.plan.now.first.number h s p.base p.intake p.reporting (bytes ++ piece) c.extend_from_slice.new.self.items start now =
+    λ bytes start w. subst (λ (xs : List ℕ). IsWritten c.args.plan.now.first.number h s p.base p.intake p.reporting (bytes ++ piece) xs start now) (sym text) (more_pending c.args.plan.now.first.number h s p.base p.intake p.reporting bytes p.pending.items piece start now w) in
     record {
       known = (c.requires.known.0 ++ piece, c.requires.known.1, more c.requires.known.0 c.requires.known.1 c.requires.known.2);
       counted = let l = length-append p.pending.items piece in let e = ap length text in omega (arith, l, e);
@@ -62,7 +62,7 @@ pub renew-requires : goal.renew-requires
 renew-requires g c =
     let (bytes, start, w) = c.boards.invariant.known in
     let r = c.in-Ok-Epoch.ensures.follows c.args.plan.now.graph.value bytes false start (c.inputs-inputs.ensures ∙ ap shown_inputs c.deref.ensures) w in
-    record { few = few_written c.args.plan.now.graph.value c.follow_lines.new.board.shown c.follow_lines.new.position bytes start _ r.0 }
+    record { few = few_written c.args.plan.now.first.number c.args.plan.now.graph.value c.follow_lines.new.board.shown c.follow_lines.new.position bytes start _ r.0 }
 
 pub returns-in-Ok-Whole-clause-follows : goal.returns-in-Ok-Whole-clause-follows
 returns-in-Ok-Whole-clause-follows g c = λ bytes ended start st.
@@ -80,7 +80,7 @@ returns-in-Ok-Fault-clause-follows g c = λ bytes ended start st.
     let all = bytes ++ c.args.piece.now in
     let r = c.in-Ok-Fault.ensures.follows c.args.plan.now.graph.value all ended start inputs (c.boards.invariant.written bytes start st) in
     let stops = subst (λ k. Stops (shown_inputs c.args.plan.now.graph.value) all q.pending.items (length r.0.known.lines) r.0.known.items k) c.in-Ok-Fault.field-0-is r.1 in
-    faults c.args.plan.now.graph.value c.follow_lines.new.board.shown q.base q.intake q.reporting all q.pending.items c.in-Ok-Fault.code ended start new c.ending_at_fault.result r.0 stops c.ending_at_fault.ensures
+    faults c.args.plan.now.first.number c.args.plan.now.graph.value c.follow_lines.new.board.shown q.base q.intake q.reporting all q.pending.items c.in-Ok-Fault.code ended start new c.ending_at_fault.result r.0 stops c.ending_at_fault.ensures
 
 pub returns-in-Err-renew-clause-follows : goal.returns-in-Err-renew-clause-follows
 returns-in-Err-renew-clause-follows g c = λ bytes ended start st.
@@ -89,7 +89,7 @@ returns-in-Err-renew-clause-follows g c = λ bytes ended start st.
     let new = g.W.Write.contents (inner_of c.follow_lines.new.writer) in
     let all = bytes ++ c.args.piece.now in
     let r = c.in-Ok-Epoch.ensures.follows c.args.plan.now.graph.value all ended start inputs (c.boards.invariant.written bytes start st) in
-    subst (λ e. Follows c.args.plan.now.graph.value all ended start new (Err e)) (sym c.ending.ensures) (halted c.args.plan.now.graph.value c.follow_lines.new.board.shown q.base q.intake q.reporting all q.pending.items ended start new c.in-Err-renew.halt r.0)
+    subst (λ e. Follows c.args.plan.now.first.number c.args.plan.now.graph.value all ended start new (Err e)) (sym c.ending.ensures) (halted c.args.plan.now.first.number c.args.plan.now.graph.value c.follow_lines.new.board.shown q.base q.intake q.reporting all q.pending.items ended start new c.in-Err-renew.halt r.0)
 
 pub returns-in-Err-clause-follows : goal.returns-in-Err-clause-follows
 returns-in-Err-clause-follows g c = λ bytes ended start st.
@@ -104,7 +104,7 @@ boards-preserved g c =
     let now = g.W.Write.contents (inner_of c.boards.writer) in
     let p = c.boards.position in
     let inputs = c.inputs-inputs.ensures ∙ ap shown_inputs c.deref.ensures in
-    let on : (bytes : List ℕ) (start : Option (List ℕ)) → IsWritten h c.boards.board.shown p.base p.intake p.reporting bytes p.pending.items start now → IsWritten h c.renew.new.board.shown c.renew.new.position.base c.renew.new.position.intake c.renew.new.position.reporting bytes c.renew.new.position.pending.items start new = λ bytes start w.
+    let on : (bytes : List ℕ) (start : Option (List ℕ)) → IsWritten c.args.plan.now.first.number h c.boards.board.shown p.base p.intake p.reporting bytes p.pending.items start now → IsWritten c.args.plan.now.first.number h c.renew.new.board.shown c.renew.new.position.base c.renew.new.position.intake c.renew.new.position.reporting bytes c.renew.new.position.pending.items start new = λ bytes start w.
     let r = c.in-Ok-Epoch.ensures.follows h bytes false start inputs w in
     let begins = subst (λ k. Stops (shown_inputs h) bytes q.pending.items (length r.0.known.lines) r.0.known.items k) c.in-Ok-Epoch.field-0-is r.1 in
     c.in-Ok.ensures.renews bytes start new r.0 begins in

@@ -10,7 +10,7 @@ abbrev pub invariant-pieces : goal.invariant-pieces
 invariant-pieces g l = record {
   rests : IsWorkedOff l.board.shown;
   counted : l.position.intake.line + length l.position.pending.items + l.room ≤ 18446744073709551614;
-  follows : (bytes : List ℕ) × HasRead g.R.Read.remaining l.fn.reader l.reader bytes false × IsPositionAfter l.plan.graph.value l.board.shown l.position bytes (g.W.Write.contents (inner_of l.fn.writer)) (g.W.Write.contents (inner_of l.writer))
+  follows : (bytes : List ℕ) × HasRead g.R.Read.remaining l.fn.reader l.reader bytes false × IsPositionAfter l.plan.first.number l.plan.graph.value l.board.shown l.position bytes (g.W.Write.contents (inner_of l.fn.writer)) (g.W.Write.contents (inner_of l.writer))
       × (l.room + length bytes ≡ 18446744073709551614);
 }
 

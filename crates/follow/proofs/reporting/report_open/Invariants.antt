@@ -9,5 +9,5 @@ abbrev pub invariant-loop-output : goal.invariant-loop-output
 invariant-loop-output g l = record {
   end_is : l.output-end ≡ length (output_numbers (shown_graph l.board.shown.graph));
   within : IsWithin l.board.shown l.reporting;
-  reports : ReportsOutputs l.board.shown l.base l.output l.fn.reporting l.reporting l.fn.out.items l.out.items;
+  reports : ReportsOutputs l.numbering.first.number l.board.shown l.numbering.base l.output l.fn.reporting l.reporting l.fn.out.items l.out.items;
 }
