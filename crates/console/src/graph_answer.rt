@@ -96,14 +96,7 @@ fn respond_on<
         &mut streams.watcher,
     ) {
         Ok(finish) => {
-            let done = write_emitted(
-                rt,
-                alloc,
-                &finish.report,
-                threads,
-                epochs,
-                &mut streams.out,
-            );
+            let done = write_emitted(rt, alloc, &finish.report, threads, epochs, &mut streams.out);
             if done.is_ok() {
                 report_counts(alloc, &report, &finish.tally, &mut streams.err);
             }

@@ -58,13 +58,7 @@ fn epochs_of_text<R: Threads + Sync>(
 }
 
 /// Answers a query text over an input text.
-fn answer<
-    R: Threads + Wait + Sync,
-    G: Gate + Sync,
-    W: Write,
-    O: Write + Send + Drop,
-    E: Write,
->(
+fn answer<R: Threads + Wait + Sync, G: Gate + Sync, W: Write, O: Write + Send + Drop, E: Write>(
     rt: &R,
     alloc: Global,
     options: RunOptions<'_, G>,
