@@ -131,11 +131,7 @@ impl Tally {
 }
 
 /// Counters for that many vertices and workers.
-fn new_rows(
-    alloc: Global,
-    vertices: usize,
-    workers: u32,
-) -> Result<Vec<Vec<Counts>>, AllocError>
+fn new_rows(alloc: Global, vertices: usize, workers: u32) -> Result<Vec<Vec<Counts>>, AllocError>
     ensures zero { IfOk result (λ rows. AreZero (map (λ row. row.items) rows.items)) }
     ensures full { IfOk result (λ rows. CoversAll (map (λ row. row.items) rows.items) vertices workers) }
 {

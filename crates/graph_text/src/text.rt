@@ -65,12 +65,7 @@ fn put_line(text: &mut Vec<u8>, number: u64, vertex: &Vertex, name: &[u8]) -> Re
 }
 
 /// Puts the number and the kind of a vertex at the end, of an output with its name.
-pub fn put_vertex(
-    text: &mut Vec<u8>,
-    number: u64,
-    kind: &Kind,
-    name: &[u8],
-) -> Result<(), NoMemory>
+pub fn put_vertex(text: &mut Vec<u8>, number: u64, kind: &Kind, name: &[u8]) -> Result<(), NoMemory>
     ensures { OnOk result (text.new.items ≡ text.old.items ++ vertex_text number (kind_of kind.now) name.now) }
 {
     put_number(text, number)?;

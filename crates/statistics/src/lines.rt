@@ -110,7 +110,12 @@ fn head_text(alloc: Global, graph: &Graph, vertex: u32) -> Result<Vec<u8>, NoMem
     let number = u64::from(vertex);
     let mut text = Vec::new(alloc);
     let name = name_of(graph.outputs(), number);
-    put_vertex(&mut text, number, &graph.vertex(VertexId(vertex)).kind, name)?;
+    put_vertex(
+        &mut text,
+        number,
+        &graph.vertex(VertexId(vertex)).kind,
+        name,
+    )?;
     Ok(text)
 }
 
@@ -152,12 +157,7 @@ fn put_line(text: &mut Vec<u8>, head: &[u8], counts: Counts) -> Result<(), NoMem
 }
 
 /// Puts the line of a worker at the end.
-fn put_worker(
-    text: &mut Vec<u8>,
-    head: &[u8],
-    worker: u64,
-    counts: Counts,
-) -> Result<(), NoMemory>
+fn put_worker(text: &mut Vec<u8>, head: &[u8], worker: u64, counts: Counts) -> Result<(), NoMemory>
     ensures { OnOk result (text.new.items ≡ text.old.items ++ worker_line head.now worker counts) }
 {
     text.extend_from_slice(head)?;

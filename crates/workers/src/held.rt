@@ -91,7 +91,7 @@ impl<J: Naming, V: Views> Model for Held<J, V> {
     ghost view = { λ h. record { board = h.board; published = h.publisher.number } };
 
     ghost invariant = { λ h. IsHeld J.names J.graph (record { board = h.board; published = h.publisher.number }) × (h.publisher.table ≡ J.mark)
-      × IsTally J.first h.board.shown h.tally };
+        × IsTally J.first h.board.shown h.tally };
 }
 
 impl<J: Naming, V: Views> Held<J, V> {

@@ -245,8 +245,8 @@ returns-in-Ok-clause-tells g c =
       stopped = c.self.inside.stopped;
     } in
     let state = state_then s t p o c.in-Ok.output k c.vertex_at-vertex.result c.epoch-epoch.result (sides_of c.prepare.new.workers.items)
-        (ap (λ (x : Shown). x.graph) c.self.view_is) (ap (λ (x : Shown). x.inputs) c.self.view_is) (ap (λ (x : Shown). x.stopped) c.self.view_is)
-        c.finish-place.ensures.sides (c.in-Ok.ensures.ok ∙ ap (λ (x : Shown). with_emitted c.vertex_at-vertex.result c.epoch-epoch.result o.emitted x.emitted) c.self.view_is) now c.worker-number.ensures vertex epoch rest in
+    (ap (λ (x : Shown). x.graph) c.self.view_is) (ap (λ (x : Shown). x.inputs) c.self.view_is) (ap (λ (x : Shown). x.stopped) c.self.view_is)
+    c.finish-place.ensures.sides (c.in-Ok.ensures.ok ∙ ap (λ (x : Shown). with_emitted c.vertex_at-vertex.result c.epoch-epoch.result o.emitted x.emitted) c.self.view_is) now c.worker-number.ensures vertex epoch rest in
     let letters = ap (λ (x : Output). counted (total (λ (l : Letter). length l.message.records) x.sent.items)) rest in
     tells_commit (g.V.Views.graph c.args.views.now) (g.V.Views.content c.args.views.now) s c.requires.kept p c.requires.own out o is t c.of_event-sent.result state
     (ap (λ (x : Sent). x.worker) c.of_event-sent.ensures ∙ c.worker-number.ensures)
