@@ -1,5 +1,6 @@
 pub mod Answering
 pub mod RunEnds
+pub mod Reporting
 pub mod FollowedText
 pub mod ReplayedText
 pub mod Heeding

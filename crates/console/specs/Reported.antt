@@ -40,9 +40,13 @@ ReportsRun first epochs report old new = (new ≡ old) ⊎ ((last : Shown) × (r
 abbrev pub ReportsFor : Option GraphForm → GraphValue → Epochs → (old new : Option (List ℕ)) → Type 0
 ReportsFor None graph epochs old new = new ≡ old
 ReportsFor (Some form) graph epochs old new =
-    (new ≡ old) ⊎ ((workers : ℕ) × (first : Shown) × (last : Shown) × (rows : Rows) × IsOpening graph workers first × IsWorkedOff graph last epochs × IsTally first last rows × ReportsIn form graph rows old new)
+    (new ≡ old)
+    ⊎ ((workers : ℕ) × (first : Shown) × (last : Shown) × (rows : Rows) × IsOpening graph workers first × IsWorkedOff graph last epochs × IsTally first last rows
+    × ReportsIn form graph rows old new)
 
 -- the same of the query's graph and the input's epochs
 abbrev pub ReportsOver : Option GraphForm → (query input : List ℕ) → (old new : Option (List ℕ)) → Type 0
 ReportsOver stats query input old new =
-    (new ≡ old) ⊎ ((graph : GraphValue) × (epochs : Epochs) × IsCompiled query (shown_graph graph) (shown_inputs graph) (shown_names graph) × IsReadFrom (shown_inputs graph) input epochs × ReportsFor stats graph epochs old new)
+    (new ≡ old)
+    ⊎ ((graph : GraphValue) × (epochs : Epochs) × IsCompiled query (shown_graph graph) (shown_inputs graph) (shown_names graph) × IsReadFrom (shown_inputs graph) input epochs
+    × ReportsFor stats graph epochs old new)

@@ -1,6 +1,7 @@
 //! Counts what each vertex does in a run, and reports it, where that is asked for.
 
 ghost use Rattle.std.specs.Prelude.{◌<◌, ◌≤◌, IfOk};
+ghost use Rattle.collector.specs.WrittenBytes.{AppendsFront};
 ghost use Rattle.semantics.specs.Limits.{max_workers};
 ghost use Rattle.console.specs.Reported.{AreReporting, ReportsBy, ReportsIn};
 
@@ -45,20 +46,41 @@ impl Reporting {
     }
 
     /// Writes the lines or the drawing. Where there is no memory for it, nothing is written; a writer that fails was given a beginning.
-    pub fn write<E: Write>(&self, alloc: Global, tally: &Tally, err: &mut E)
+    fn write<E: Write>(&self, alloc: Global, tally: &Tally, err: &mut E)
         ensures { ReportsIn self.now.form self.now.statistics.graph.value tally.now (E.contents err.old) (E.contents err.new) }
     {
-        if tally.len() != self.statistics.vertex_count() {
-            return;
-        }
-        let text = match self.form {
-            GraphForm::Lines => self.statistics.text(alloc, tally),
-            GraphForm::Dot => self.statistics.dot(alloc, tally),
-        };
-        if let Ok(text) = text {
-            let _whole = takes_all(err, &text);
+        match self.form {
+            GraphForm::Lines => write_lines(alloc, &self.statistics, tally, err),
+            GraphForm::Dot => write_dot(alloc, &self.statistics, tally, err),
         }
     }
+}
+
+/// Writes the lines of counters that each vertex has.
+fn write_lines<E: Write>(alloc: Global, statistics: &Statistics, tally: &Tally, err: &mut E)
+    ensures { ReportsIn GraphForm.Lines statistics.now.graph.value tally.now (E.contents err.old) (E.contents err.new) }
+{
+    if tally.len() != statistics.vertex_count() {
+        return;
+    }
+    let Ok(text) = statistics.text(alloc, tally) else {
+        return;
+    };
+    write_front(err, &text);
+}
+
+/// Writes the drawing.
+fn write_dot<E: Write>(alloc: Global, statistics: &Statistics, tally: &Tally, err: &mut E) {
+    if let Ok(text) = statistics.dot(alloc, tally) {
+        write_front(err, &text);
+    }
+}
+
+/// Writes a text, or a beginning of it where the writer fails.
+fn write_front<E: Write>(err: &mut E, text: &[u8])
+    ensures { AppendsFront (E.contents err.old) (E.contents err.new) text.now }
+{
+    let _whole = takes_all(err, text);
 }
 
 /// Writes a report, if it is asked for.
@@ -70,7 +92,8 @@ pub fn report_counts<E: Write>(
 )
     ensures { ReportsBy report.now tally.now (E.contents err.old) (E.contents err.new) }
 {
-    if let Some(report) = report {
-        report.write(alloc, tally, err);
+    match report {
+        None => {}
+        Some(report) => report.write(alloc, tally, err),
     }
 }

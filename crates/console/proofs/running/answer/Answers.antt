@@ -3,6 +3,7 @@ use Rattle.collector.specs.ReadEpochs.{epoch_count, records_at}
 use Rattle.collector.specs.InputText.{IsReadFrom}
 use Rattle.console.proofs.RunEnds.{after_reading, responds_alike, run_ends}
 use Rattle.console.proofs.Heeding.{responds_heeds}
+use Rattle.console.proofs.Reporting.{reported_over}
 use Rattle.console.proofs.running.answer.Goals as goal
 
 pub returns-clause-ends : goal.returns-clause-ends
@@ -19,3 +20,8 @@ returns-clause-read g c = after_reading _ _ _ _ _ c.respond.result (c.respond.en
 pub returns-clause-heeds : goal.returns-clause-heeds
 returns-clause-heeds g c =
     responds_heeds c.args.query.now _ _ _ _ _ c.respond.result (shown_graph c.in-Ok.graph, shown_inputs c.in-Ok.graph, shown_names c.in-Ok.graph, c.in-Ok.ensures.graph, c.in-Ok.ensures.few) (c.respond.ensures.text c.args.query.now c.in-Ok.ensures.graph)
+
+pub returns-clause-counts : goal.returns-clause-counts
+returns-clause-counts g c =
+    reported_over c.args.options.stats c.args.query.now c.args.input.now c.in-Ok.graph c.in-Ok-epochs_of_text.epochs (g.E.Write.contents c.args.streams.now.err) (g.E.Write.contents c.respond.new.streams.err) c.in-Ok.ensures.graph
+    c.in-Ok-epochs_of_text.ensures.read c.respond.ensures.counts
