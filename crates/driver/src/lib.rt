@@ -7,7 +7,6 @@
 //! | `commit` | commits an event that was computed, or abandons it without memory | what the event sends |
 //! | `settle` | commits an event that was computed elsewhere, or abandons one that was refused there | what the event sends, or why it was abandoned |
 //! | `process` | computes an event by a gate, and settles it | the same |
-//! | `Tally` | counts commits, for each vertex and worker | its numbers say what was done in some run |
 //! | `law_inputs` | nothing: the inputs that a graph declares are those at which its board is fed | |
 //!
 //! The contract for the layers above:
