@@ -115,30 +115,50 @@ fn holds(rt: &HostRuntime, threads: &(impl Threads + Wait + Sync), path: &str) -
 
 /// Whether the manual page or the completion lists the commands and options of the help. It prints a line that says so, or what differs.
 fn lists(rt: &HostRuntime, threads: &(impl Threads + Wait + Sync), path: &str) -> io::Result<bool> {
-    let alloc = rt.alloc();
     let page = fs::read_to_string(rt, path)?;
     let own = help_of(rt, threads, &["loom", "--help"])?;
-    let mut helps = Vec::new(alloc);
-    for command in commands_of(alloc, own.as_str())? {
-        helps.push((command, help_of(rt, threads, &["loom", "help", command])?))?;
+    let helps = helps_of(rt, threads, own.as_str())?;
+    is_listed(rt, path, page.as_str(), own.as_str(), helps.as_slice())
+}
+
+/// The help of each command that a help lists.
+fn helps_of(
+    rt: &HostRuntime,
+    threads: &(impl Threads + Wait + Sync),
+    own: &str,
+) -> io::Result<Vec<String>> {
+    let mut helps = Vec::new(rt.alloc());
+    for command in commands_of(rt.alloc(), own)? {
+        let help = help_of(rt, threads, &["loom", "help", command])?;
+        helps.push(help)?;
     }
+    Ok(helps)
+}
+
+/// Whether a page lists the commands and options of these helps, the program's own and those of its commands.
+fn is_listed(
+    rt: &HostRuntime,
+    path: &str,
+    page: &str,
+    own: &str,
+    helps: &[String],
+) -> io::Result<bool> {
+    let alloc = rt.alloc();
     let mut help = Vec::new(alloc);
-    for (command, text) in &helps {
-        help.push(Listed {
-            command: *command,
-            options: options_of(alloc, text.as_str())?,
-        })?;
+    for (command, text) in commands_of(alloc, own)?.into_iter().zip(helps) {
+        let options = options_of(alloc, text.as_str())?;
+        help.push(Listed { command, options })?;
     }
     let (wanted, found) = if path.ends_with(".bash") {
         (
             to_complete(alloc, help.as_slice())?,
-            completed(alloc, page.as_str())?,
+            completed(alloc, page)?,
         )
     } else {
-        let own = options_of(alloc, own.as_str())?;
+        let options = options_of(alloc, own)?;
         (
-            to_describe(alloc, help.as_slice(), own.as_slice())?,
-            described(alloc, page.as_str())?,
+            to_describe(alloc, help.as_slice(), options.as_slice())?,
+            described(alloc, page)?,
         )
     };
     is_same_list(rt, path, wanted.as_slice(), found.as_slice())

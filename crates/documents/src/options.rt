@@ -165,14 +165,14 @@ fn push_forms(
 /// The option `--build` is the script's own.
 pub fn described(alloc: Global, page: &str) -> Result<Vec<String>, AllocError> {
     let mut entries = Vec::new(alloc);
-    let mut command = "";
+    let mut command = String::new(alloc);
     for line in before(page, ".Sh DESCRIPTION").lines() {
         if let Some(name) = line.strip_prefix(".Cm ") {
-            command = name;
-            push_entry(alloc, &mut entries, command, "")?;
+            command = format!(in alloc; "{name}")?;
+            push_entry(alloc, &mut entries, name, "")?;
         }
         if let Some(option) = line.strip_prefix(".Op Fl ") {
-            push_flag(alloc, &mut entries, command, option)?;
+            push_flag(alloc, &mut entries, command.as_str(), option)?;
         }
     }
     for line in page.lines() {
