@@ -1,8 +1,9 @@
 # Deliberate mistakes: no command `format`, a command `walk`, no `run --dot`, and an option `follow --watch`.
-    local commands="run follow replay check graph explain help walk"
+    local commands="run follow replay check graph sql explain help walk"
         run) words="--workers --watch --stats --end-mark --explain --inline --help" ;;
         follow) words="--workers --watch --first-epoch --end-mark --explain --inline --help" ;;
         replay) words="--workers --views --explain --inline --help" ;;
         check) words="--heap --explain --inline --help" ;;
         graph) words="--dot --heap --explain --inline --help" ;;
         format) words="--explain --inline --help" ;;
+        sql) words="--wrapped --explain --inline --help" ;;
