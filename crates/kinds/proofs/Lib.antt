@@ -1,0 +1,4 @@
+mod Found
+mod Alike
+mod AlikeForms
+mod AlikeRelations
