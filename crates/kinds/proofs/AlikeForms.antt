@@ -1,6 +1,5 @@
 -- Lists of alike records, and what each form makes of them.
-use Rattle.std.proofs.Common.{◌≡◌, ℕ, zero, suc, ◌+◌, nat_lt, Bool, true, false, cond, not, ◌&&◌, List, [], ◌∷◌, ◌++◌, map, filter, flat_map, ℤ, pos, ◌+ℤ◌, Option, Some, None, slice_get, refl, sym, ap, ap₂, subst, ◌∙◌}
-use Rattle.std.specs.Prelude.{option_map, is_some}
+use Rattle.std.proofs.Common.{◌≡◌, ℕ, zero, suc, ◌+◌, nat_lt, Bool, true, false, cond, not, ◌&&◌, List, [], ◌∷◌, ◌++◌, map, filter, flat_map, ℤ, pos, ◌+ℤ◌, Option, Some, None, slice_get, refl, sym, ap, ap₂, subst}
 use Rattle.std.specs.Int.{int_wrap, int_min, int_max}
 use Rattle.std.specs.Ordering.{int_eq}
 use mir.Syntax.{w64}
@@ -11,8 +10,8 @@ use Rattle.kinds.specs.declared.kind.Quantity.{Quantity}
 use Rattle.kinds.specs.declared.kind.Quantity.TheVariants as quantity
 use Rattle.kinds.specs.declared.kind.Kind.{Kind}
 use Rattle.kinds.specs.declared.kind.Kind.TheVariants as kind
-use Rattle.kinds.specs.Kinds.{common, opposite, scalar_kind, may_ask, summed, ordered, agg_kind}
-use Rattle.kinds.specs.Relations.{all_of, merged_kind, merged, may_meet, may_join}
+use Rattle.kinds.specs.Kinds.{opposite, scalar_kind, may_ask, summed, ordered, agg_kind}
+use Rattle.kinds.specs.Relations.{all_of, may_meet, may_join}
 use Rattle.kinds.specs.Renaming.{IsRenaming}
 use Rattle.kinds.proofs.Found.{map_found, both_true, all_append}
 use Rattle.kinds.proofs.Alike.{FieldAlike, Alike, same_fields, same_alike, append_alike, field_alike, all_alike, project_alike, value_alike, holds_alike}

@@ -1,9 +1,8 @@
 -- What the fields of relations and outputs stand for, if what is computed of them makes sense.
-use Rattle.std.specs.Prelude.{ℕ, Bool, true, false, cond, ◌&&◌, List, [], ◌∷◌, ◌++◌, map, Option, Some, None}
+use Rattle.std.specs.Prelude.{Bool, true, false, cond, ◌&&◌, List, [], ◌∷◌, ◌++◌, map, Option, Some, None}
 use Rattle.std.specs.Prelude.{ℤ, slice_get, is_some, option_map, option_and_then}
 use Rattle.semantics.specs.Meaning.{same_name}
-use Rattle.semantics.specs.Query.{Name, Pair, Loop, Rel, Input, Let, Output, Program}
-use Rattle.kinds.specs.declared.kind.Quantity.{Quantity}
+use Rattle.semantics.specs.Query.{Name, Pair, Rel, Input, Let, Output, Program}
 use Rattle.kinds.specs.declared.kind.Kind.{Kind}
 use Rattle.kinds.specs.declared.kind.Kind.TheVariants as kind
 use Rattle.kinds.specs.Kinds.{same_quantity, common, scalar_kind, may_ask, agg_kind}
