@@ -1,7 +1,7 @@
 -- A script has at most as many tables as the count says.
-use Rattle.std.proofs.Common.{◌≡◌, ℕ, zero, suc, ◌+◌, ◌*◌, ◌≤◌, List, [], ◌∷◌, length, arith}
+use Rattle.std.proofs.Common.{ℕ, zero, suc, ◌+◌, ◌*◌, ◌≤◌, List, [], ◌∷◌, length, arith}
 use Rattle.semantics.specs.Meaning.{repeated}
-use Rattle.semantics.specs.Query.{Name, Loop, Rel, Let, Output, Program}
+use Rattle.semantics.specs.Query.{Loop, Rel, Let, Output, Program}
 use Rattle.sql_meaning.specs.Script.{Table, Query, Written}
 use Rattle.sql_meaning.specs.Translation.{Tables, stands, Finding, finding_first, finding_next, written_loop, written, input_tables, Scope, after_lets, written_outputs, script_of}
 use Rattle.sql_meaning.specs.Count.{one_at_least, loop_count, table_count, lets_count, outputs_count, program_count}

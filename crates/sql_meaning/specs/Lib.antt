@@ -7,3 +7,4 @@ pub mod Count
 pub mod AnyOrder
 pub mod Remainder
 pub mod Plain
+pub mod PlainScript

@@ -9,6 +9,7 @@ ghost use Rattle.semantics.specs.Typing.{WellTyped};
 ghost use Rattle.sql_meaning.specs.AnyOrder.{MayAnswer};
 ghost use Rattle.sql_meaning.specs.Count.{program_count};
 ghost use Rattle.sql_meaning.specs.Plain.{plain, HasNoError};
+ghost use Rattle.sql_meaning.specs.PlainScript.{plain_answers, ScriptHasNoError};
 ghost use Rattle.sql_meaning.specs.Range.{IsRowOfWords, StaysModerate};
 ghost use Rattle.sql_meaning.specs.Remainder.{by_remainders};
 ghost use Rattle.sql_meaning.specs.Script.{Script};
@@ -51,4 +52,9 @@ pub fn law_wrapped()
 /// A scalar that is written without wrapping has its value wherever no operator is an error.
 pub fn law_plain()
     ensures { (s : Scalar) (r : Record) → HasNoError (plain s) r → evaluated (plain s) r ≡ value s r }
+{}
+
+/// A script that is written without wrapping answers as the script with it, wherever no operator, count or sum in it is an error.
+pub fn law_right_or_error()
+    ensures { (s : Script) (tables : List (List Record)) → ScriptHasNoError s.tables tables → plain_answers s tables ≡ answers s tables }
 {}
