@@ -223,6 +223,17 @@ impl Tree {
         }
     }
 
+    /// Removes all entries.
+    fn clear(&mut self, rooms: &mut Vec<Room>)
+        ensures none { self.new ≡ [] }
+        ensures room { length rooms.old.items ≤ length rooms.new.items }
+    {
+        match mem::replace(&mut self.node, Node::Leaf) {
+            Node::Leaf => {}
+            Node::Fork(left, _, _, right) => keep(rooms, left, right),
+        }
+    }
+
     /// Whether this is a fork with an empty side.
     fn is_one_sided(&self) -> bool {
         match &self.node {
@@ -274,6 +285,8 @@ impl Tree {
                 if here.time == *time {
                     if here.count > 1 {
                         here.count -= 1;
+                    } else if are_empty(left, right) {
+                        self.clear(rooms);
                     } else {
                         let _ = self.pull(rooms);
                     }
@@ -363,6 +376,13 @@ fn sift(here: &mut Entry, entry: Entry) -> Entry
     } else {
         mem::replace(here, entry)
     }
+}
+
+/// Whether both trees are empty.
+fn are_empty(left: &Tree, right: &Tree) -> bool
+    ensures { result ≡ true → IsNone left.now × IsNone right.now }
+{
+    left.is_empty() && right.is_empty()
 }
 
 /// Whether the entry to move up next is on the left.
