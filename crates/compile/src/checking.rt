@@ -14,7 +14,7 @@ use itoa::Buffer;
 use std::alloc::{AllocError, Allocator, Global};
 
 /// Appends `input NAME/ARITY`.
-fn push_input(text: &mut Vec<u8>, input: &Input) -> Result<(), AllocError>
+pub fn push_input(text: &mut Vec<u8>, input: &Input) -> Result<(), AllocError>
     ensures { OnOk result (text.new.items ≡ text.old.items ++ input_line (plain_input input.now)) }
 {
     let mut buffer = Buffer::new();
@@ -27,7 +27,7 @@ fn push_input(text: &mut Vec<u8>, input: &Input) -> Result<(), AllocError>
 }
 
 /// Appends `output ARITY`, or `output NAME/ARITY` where the output isn't named `out`.
-fn push_output<A: Allocator>(
+pub fn push_output<A: Allocator>(
     text: &mut Vec<u8>,
     output: &Output<A>,
     arity: u64,

@@ -35,7 +35,7 @@ ghost use Rattle.graph.specs.Limits.{max_vertices};
 ghost use Rattle.compile.specs.Compiled.{IsCompiled, IsUncompiled};
 ghost use Rattle.compile.specs.Queries.{IsRefusal, IsTypedQuery};
 
-pub use checking::checked_text;
+pub use checking::{checked_text, push_input, push_output};
 use fault::compile_fault;
 pub use fault::{CompileFault, graph_fault, input_fault};
 pub use formatting::canonical_text;
@@ -53,7 +53,7 @@ use typing::{Typed, check};
 pub use warnings::warnings_of;
 
 /// The typed program of a query text.
-fn typed_program<A: Allocator + Copy>(
+pub fn typed_program<A: Allocator + Copy>(
     alloc: Global,
     arena: A,
     text: &[u8],

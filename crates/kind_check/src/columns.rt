@@ -143,7 +143,7 @@ fn push_merged(
 }
 
 /// What the fields of two relations have in common.
-pub(crate) fn merged(
+pub fn merged(
     alloc: Global,
     left: &[Kind],
     right: &[Kind],
@@ -157,7 +157,7 @@ pub(crate) fn merged(
 }
 
 /// Whether the fields have the same kinds.
-pub(crate) fn same_kinds(left: &[Kind], right: &[Kind]) -> bool
+pub fn same_kinds(left: &[Kind], right: &[Kind]) -> bool
     ensures { result ≡ relations.same_kinds left.now right.now }
 {
     match (left.split_first(), right.split_first()) {

@@ -17,4 +17,5 @@ mod scalar;
 mod scope;
 
 pub use codes::{AGGREGATED, COMPARED, COMPUTED, JOINED, PUT_TOGETHER};
+pub use columns::{merged, same_kinds};
 pub use program::check_kinds;

@@ -1,4 +1,4 @@
-//! The table of the refusals, in three parts: a part is as long as one proof can well compute with.
+//! The table of the refusals, in four parts: a part is as long as one proof can well compute with.
 
 ghost use Rattle.std.specs.Prelude.{◌≡◌, ◌==◌, option_map, IfSome};
 ghost use Rattle.std.specs.List.{find};
@@ -6,7 +6,7 @@ ghost use Rattle.std.specs.List.{find};
 /// What a refusal means. Texts are UTF-8; a sentence of `text` is a line.
 #[derive(Clone, Copy, Debug, PartialEq, Eq)]
 pub struct Explanation {
-    /// Its number: 1 to 24 of queries, 31 to 40 of a schedule's steps, 41 to 47 of the lines of inputs, of which 43, 44 and 46 are of a
+    /// Its number: 1 to 24 of queries, 25 to 30 of queries by a schema, 31 to 40 of a schedule's steps, 41 to 47 of the lines of inputs, of which 43, 44 and 46 are of a
     /// schedule's lines too.
     pub code: u8,
     /// What is wrong, in a phrase.
@@ -23,7 +23,7 @@ pub struct Explanation {
 }
 
 /// The numbers that refusals have, in words.
-pub const NUMBERS: &str = "1 to 6, 11 to 21, 23, 24 and 31 to 47";
+pub const NUMBERS: &str = "1 to 6, 11 to 21 and 23 to 47";
 
 /// The refusals of a query, each code once, in ascending order.
 pub static OF_QUERIES: [Explanation; 19] = [
@@ -209,6 +209,64 @@ pub static OF_QUERIES: [Explanation; 19] = [
     },
 ];
 
+/// The refusals of a query by a schema, each code once, in ascending order.
+pub static OF_KINDS: [Explanation; 6] = [
+    Explanation {
+        code: 25,
+        summary: "a scalar of a text, or of quantities that don't go together",
+        place: "the scalar, or the column in it",
+        text: "Texts stand as numbers, of which nothing can be computed; days and times move by whole numbers alone.\n\
+            Two days can be subtracted, which gives a whole number. `loom kinds` lists what each field stands for.",
+        wrong: "",
+        right: "",
+    },
+    Explanation {
+        code: 26,
+        summary: "a comparison of what has no order, or of different kinds",
+        place: "the comparison",
+        text: "Texts are equal or not: their numbers have no order. A day can't be compared with a decimal number, say.\n\
+            A text is compared with another one, or with the number of a constant of the schema; a number with its own kind or with a bare number.",
+        wrong: "",
+        right: "",
+    },
+    Explanation {
+        code: 27,
+        summary: "a join of columns of different kinds",
+        place: "the left column",
+        text: "The columns of a pair have to stand for the same: a text for a text, a day for a day.\n\
+            A decimal number meets only one with as many digits after the point.",
+        wrong: "",
+        right: "",
+    },
+    Explanation {
+        code: 28,
+        summary: "an aggregate of what can't be added up, or has no order",
+        place: "the aggregate, or a column that isn't there",
+        text: "`sum` adds up whole and decimal numbers; days, times and texts have no sum. `min` and `max` are of anything but texts.\n\
+            Count texts with `count`, or each once with `distinct` before it.",
+        wrong: "",
+        right: "",
+    },
+    Explanation {
+        code: 29,
+        summary: "relations put together whose fields are of different kinds",
+        place: "the form, or the loop",
+        text: "`concat`, `except` and `intersect` need fields of the same kinds on both sides, and a loop's body gives the kinds of its start.\n\
+            A bare number at the start takes the kind that the first turn gives it.",
+        wrong: "",
+        right: "",
+    },
+    Explanation {
+        code: 30,
+        summary: "an input or an output that the schema describes otherwise",
+        place: "its name, or its number of fields",
+        text: "The schema has no input or output of that name, or another number of columns, or other kinds of fields.\n\
+            `loom check` says how many fields there are; the schema has a line for each.",
+        wrong: "",
+        right: "",
+    },
+];
+
 /// The refusals of a schedule's steps, each code once, in ascending order.
 pub static OF_STEPS: [Explanation; 10] = [
     Explanation {
@@ -384,6 +442,13 @@ fn of_query(code: u8) -> Option<&'static Explanation>
     row_of(&OF_QUERIES, code)
 }
 
+/// The row of a refusal of a query by a schema.
+fn of_kind(code: u8) -> Option<&'static Explanation>
+    ensures { IfSome result (λ e. e.now.code ≡ code) }
+{
+    row_of(&OF_KINDS, code)
+}
+
 /// The row of a step's refusal.
 fn of_step(code: u8) -> Option<&'static Explanation>
     ensures { IfSome result (λ e. e.now.code ≡ code) }
@@ -403,7 +468,8 @@ pub fn explanation_of(code: u8) -> Option<&'static Explanation>
     ensures { IfSome result (λ e. e.now.code ≡ code) }
 {
     match code {
-        0..=30 => of_query(code),
+        0..=24 => of_query(code),
+        25..=30 => of_kind(code),
         31..=40 => of_step(code),
         41..=255 => of_line(code),
     }
