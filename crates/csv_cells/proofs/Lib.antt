@@ -1,3 +1,3 @@
 mod ReadByGrammar
-mod Rows
+pub mod Rows
 mod LastDigits

@@ -1,0 +1,72 @@
+//! Why a table is refused.
+
+use csv_cells::RowFault;
+use std::alloc::{AllocError, AllocFailed};
+
+/// What is wrong with a CSV file, or with an answer.
+#[derive(Clone, Copy)]
+pub enum Fault {
+    /// The text isn't one of CSV.
+    Text(csv_strict::Fault),
+    /// The header row doesn't have the schema's names, in their order.
+    Header,
+    /// A record has another number of cells than the schema has columns.
+    Length,
+    /// The cell in that column, from 0, stands for nothing there.
+    Cell(usize),
+    /// The value in that column, from 0, is less than that of the record before, and begins an epoch.
+    Order(usize),
+    /// A dictionary's file has two equal texts, or records of more than one cell.
+    Dictionary,
+    /// A line of an answer isn't one of this output.
+    Answer,
+}
+
+/// A fault, and the line on which its record begins, counted from 1; or lack of memory.
+#[derive(Clone, Copy)]
+pub enum TableRefusal {
+    At { fault: Fault, line: u64 },
+    NoMemory,
+}
+
+/// The file, counted from 0, whose table is refused, and why.
+#[derive(Clone, Copy)]
+pub struct EncodeRefusal {
+    pub file: usize,
+    pub refusal: TableRefusal,
+}
+
+impl From<AllocError> for TableRefusal {
+    fn from(_e: AllocError) -> TableRefusal {
+        TableRefusal::NoMemory
+    }
+}
+
+impl<T: Drop> From<AllocFailed<T>> for TableRefusal {
+    fn from(_e: AllocFailed<T>) -> TableRefusal {
+        TableRefusal::NoMemory
+    }
+}
+
+/// Why a record is refused.
+#[derive(Clone, Copy)]
+pub enum RecordFault {
+    Fault(Fault),
+    NoMemory,
+}
+
+/// The fault of a record without numbers.
+pub fn fault_of_row(fault: RowFault) -> RecordFault {
+    match fault {
+        RowFault::Length => RecordFault::Fault(Fault::Length),
+        RowFault::Cell(place) => RecordFault::Fault(Fault::Cell(place)),
+        RowFault::NoMemory => RecordFault::NoMemory,
+    }
+}
+
+/// A record that is refused: how many come before it, and why.
+#[derive(Clone, Copy)]
+pub struct RowRefusal {
+    pub count: u64,
+    pub fault: RecordFault,
+}

@@ -1,0 +1,141 @@
+//! The records of a CSV text as lines of an input text.
+
+ghost use Rattle.std.specs.Prelude.{◌≡◌, ◌++◌, true, IfOk, OnOk};
+ghost use Rattle.csv_cells.specs.Texts.{Grows, texts_of};
+ghost use Rattle.tables.specs.Tables.{AreEncoded, epoch_of, head_text};
+ghost use Rattle.csv_cells.specs.Encoded.{line_text};
+
+use crate::refusal::{Fault, RecordFault, RowRefusal, fault_of_row};
+use csv::ReaderBuilder;
+use csv_cells::{Column, Dictionary, append_line, read_row};
+use schema::Epochs;
+use std::alloc::{AllocError, Global};
+
+/// The epoch of a record: its value in the column by which the table has its epochs.
+fn epoch_value(epochs: Epochs, numbers: &[i64]) -> Option<i64>
+    ensures { result ≡ epoch_of epochs numbers.now }
+{
+    match epochs {
+        Epochs::One | Epochs::Every => None,
+        Epochs::By(place) => {
+            if place < numbers.len() {
+                Some(numbers[place])
+            } else {
+                Some(0)
+            }
+        }
+    }
+}
+
+/// Appends what begins the epoch of a record, if it isn't that of the record before.
+fn append_head(
+    out: &mut Vec<u8>,
+    shared: &[u8],
+    last: Option<i64>,
+    epoch: Option<i64>,
+) -> Result<(), AllocError>
+    ensures { OnOk result (out.new.items ≡ out.old.items ++ head_text shared.now last epoch) }
+{
+    let Some(now) = epoch else {
+        return Ok(());
+    };
+    if let Some(before) = last {
+        if before == now {
+            return Ok(());
+        }
+    }
+    out.extend_from_slice(b"epoch\n")?;
+    out.extend_from_slice(shared)
+}
+
+/// Whether the epoch of a record comes before that of the one before.
+fn is_late(last: Option<i64>, epoch: Option<i64>) -> bool {
+    match (last, epoch) {
+        (Some(before), Some(now)) => now < before,
+        _ => false,
+    }
+}
+
+/// The fault of a record that comes too late.
+fn late_fault(epochs: Epochs) -> RecordFault {
+    match epochs {
+        Epochs::By(place) => RecordFault::Fault(Fault::Order(place)),
+        Epochs::One | Epochs::Every => RecordFault::Fault(Fault::Order(0)),
+    }
+}
+
+/// Where a table's records go: its epochs, its name, and the lines that are part of each of its epochs.
+#[derive(Clone, Copy)]
+pub struct Target<'a> {
+    pub epochs: Epochs,
+    pub name: &'a [u8],
+    pub shared: &'a [u8],
+}
+
+/// Appends the lines of a record. `last` is the epoch of the record before, and then that of this one.
+fn append_row(
+    out: &mut Vec<u8>,
+    target: Target<'_>,
+    last: Option<i64>,
+    numbers: &[i64],
+) -> Result<(), AllocError>
+    ensures { OnOk result (out.new.items ≡ out.old.items ++ (head_text target.entry.shared.now last (epoch_of target.entry.epochs numbers.now) ++ line_text target.entry.name.now numbers.now)) }
+{
+    append_head(
+        out,
+        target.shared,
+        last,
+        epoch_value(target.epochs, numbers),
+    )?;
+    append_line(out, target.name, numbers)
+}
+
+/// The lines of the records of a CSV text with no header row. A refusal names the first record that has no numbers, or comes too late.
+pub fn encode_rows(
+    alloc: Global,
+    columns: &[Column],
+    target: Target<'_>,
+    dictionary: &mut Dictionary,
+    text: &[u8],
+) -> Result<Vec<u8>, RowRefusal>
+    ensures encoded { IfOk result (λ out. AreEncoded columns.now target.entry text.now (texts_of dictionary.new) out.items) }
+    ensures grows { OnOk result (Grows (texts_of dictionary.old) (texts_of dictionary.new)) }
+{
+    let reader = ReaderBuilder::new()
+        .has_headers(false)
+        .flexible(true)
+        .from_reader(alloc, text);
+    let mut out = Vec::new(alloc);
+    let mut numbers = Vec::new(alloc);
+    let mut scratch = Vec::new(alloc);
+    let mut last = None;
+    let mut count = 0u64;
+    for row in reader.into_byte_records() {
+        let row = match row {
+            Ok(row) => row,
+            Err(_) => {
+                let fault = RecordFault::NoMemory;
+                return Err(RowRefusal { count, fault });
+            }
+        };
+        match read_row(alloc, columns, dictionary, &row, &mut numbers, &mut scratch) {
+            Ok(()) => {}
+            Err(fault) => {
+                let fault = fault_of_row(fault);
+                return Err(RowRefusal { count, fault });
+            }
+        }
+        let epoch = epoch_value(target.epochs, numbers.as_slice());
+        if is_late(last, epoch) {
+            let fault = late_fault(target.epochs);
+            return Err(RowRefusal { count, fault });
+        }
+        if append_row(&mut out, target, last, numbers.as_slice()).is_err() {
+            let fault = RecordFault::NoMemory;
+            return Err(RowRefusal { count, fault });
+        }
+        last = epoch;
+        count = count.saturating_add(1);
+    }
+    Ok(out)
+}
