@@ -1,6 +1,6 @@
 //! Batches by epoch.
 
-ghost use Rattle.std.specs.Prelude.{◌≡◌, ◌++◌, ◌∷◌, [], List, ℤ, ◌+◌, ◌<◌, ◌≤◌, slice_index_or, vec_len, vec_capacity, IfErr, OnOk, OnErr};
+ghost use Rattle.std.specs.Prelude.{◌≡◌, ◌++◌, ◌∷◌, [], List, ℤ, ◌+◌, ◌<◌, ◌≤◌, slice_index_or, vec_len, vec_capacity, IfErr, IfOk, OnOk, OnErr};
 ghost use Rattle.board.specs.Steps.{more_at};
 
 use rows::Batch;
@@ -28,6 +28,20 @@ impl Batches {
     {
         Batches {
             list: Vec::new(alloc),
+        }
+    }
+
+    /// A list of one batch, with room for no more, since most small epochs have one. Gives it back if memory is short.
+    fn one(alloc: Global, batch: Batch) -> Result<Batches, Batch>
+        ensures ok { IfOk result (λ b. b ≡ batch ∷ []) }
+        ensures back { IfErr result (λ back. back ≡ batch) }
+    {
+        match Vec::with_capacity(alloc, 1) {
+            Ok(mut list) => {
+                list.push_reserved(batch);
+                Ok(Batches { list })
+            }
+            Err(_) => Err(batch),
         }
     }
 
@@ -100,9 +114,8 @@ impl Epochs {
         if self.lists.reserve(at - len + 1).is_err() {
             return Err(batch);
         }
-        let mut fresh = Batches::new(self.alloc);
-        match fresh.push(batch) {
-            Ok(()) => {
+        match Batches::one(self.alloc, batch) {
+            Ok(fresh) => {
                 pad(&mut self.lists, self.alloc, at);
                 self.lists.push_reserved(fresh);
                 Ok(())

@@ -582,37 +582,13 @@ fn emit(emitted: &mut Emitted, vertex: usize, epoch: u32, output: Output) -> Res
     ensures same { OnErr result (emitted.new ≡ emitted.old) }
     ensures back { IfErr result (λ o. o ≡ output) }
 {
-    let Output {
-        place,
-        wiring,
-        cuts,
-        shard,
-        sent,
-        asked,
-        emitted: batch,
-        received,
-    } = output;
-    match emitted.add_some(vertex, epoch, batch) {
-        Ok(()) => Ok(Output {
-            place,
-            wiring,
-            cuts,
-            shard,
-            sent,
-            asked,
-            emitted: None,
-            received,
-        }),
-        Err(batch) => Err(Output {
-            place,
-            wiring,
-            cuts,
-            shard,
-            sent,
-            asked,
-            emitted: batch,
-            received,
-        }),
+    let mut output = output;
+    match emitted.add_some(vertex, epoch, output.emitted.take()) {
+        Ok(()) => Ok(output),
+        Err(batch) => {
+            output.emitted = batch;
+            Err(output)
+        }
     }
 }
 

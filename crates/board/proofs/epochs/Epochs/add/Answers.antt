@@ -19,8 +19,8 @@ returns-then-at-len-clause-ok c =
 pub returns-in-Ok-clause-ok : goal.returns-in-Ok-clause-ok
 returns-in-Ok-clause-ok c =
     let full : length c.pad.new.lists.items ≡ c.args.epoch = omega arith in
-    let fresh : c.push-2.new.self ≡ c.args.batch ∷ [] = c.in-Ok.ensures.ok ∙ ap (λ (x : List (List (List ℤ))). x ++ c.args.batch ∷ []) c.new-fresh.ensures in
-    let items : c.push_reserved.new.self.items ≡ c.pad.new.lists.items ++ (c.args.batch ∷ []) ∷ [] = c.push_reserved.ensures.items ∙ ap (λ (x : List (List (List ℤ))). c.pad.new.lists.items ++ x ∷ []) fresh in
+    let items : c.push_reserved.new.self.items ≡ c.pad.new.lists.items ++ (c.args.batch ∷ []) ∷ [] =
+    c.push_reserved.ensures.items ∙ ap (λ (x : List (List (List ℤ))). c.pad.new.lists.items ++ x ∷ []) c.in-Ok.ensures.ok in
     items
     ∙ sym (more-new c.args.epoch (c.args.batch ∷ []) c.pad.new.lists.items full)
     ∙ c.pad.ensures.same (c.args.batch ∷ [])
