@@ -9,15 +9,16 @@ use crate::drafts::Drafts;
 use crate::encoding::{Encoding, encode_files};
 use crate::fault::Fault;
 use crate::line::{Asked, LineError, read_words};
+use crate::listing::{Listing, list_kinds};
 use collector::{Sources, Watched};
 use std::alloc::Global;
 use std::io::Write;
 
-/// Whether a word is `encode` or `decode`.
+/// Whether a word is `encode`, `decode` or `kinds`.
 fn is_command(word: &str) -> bool
     ensures { IsTrue result ↔ IsTablesWord word.now }
 {
-    word == "encode" || word == "decode"
+    word == "encode" || word == "decode" || word == "kinds"
 }
 
 /// Whether a word is `help`.
@@ -27,7 +28,7 @@ fn is_help(word: &str) -> bool
     word == "help"
 }
 
-/// Whether a line, whose first word is the program's own, is one of `encode` or `decode`, or asks for their help.
+/// Whether a line, whose first word is the program's own, is one of `encode`, `decode` or `kinds`, or asks for their help.
 pub fn is_of_tables(words: &[&str]) -> bool
     ensures { result ≡ true → IsOfTables (map (λ s. s.now) words.now) }
 {
@@ -75,6 +76,13 @@ fn obey<'a, S: Sources<'a>, D: Drafts, W: Write>(
             };
             decode_answer(alloc, sources, asked, out)
         }
+        Asked::Kinds { schema, query } => {
+            let asked = Listing {
+                schema: *schema,
+                query: *query,
+            };
+            list_kinds(alloc, sources, asked, out)
+        }
     }
 }
 
@@ -104,7 +112,7 @@ fn refuse<E: Write>(error: LineError, err: &mut E) -> u8 {
     }
 }
 
-/// Answers a line of `encode` or `decode`, whose first word is the program's own, and gives the status: 0 done, 2 command line, 3 schema, 4 a file's text,
+/// Answers a line of `encode`, `decode` or `kinds`, whose first word is the program's own, and gives the status: 0 done, 2 command line, 3 schema or query, 4 a file's text,
 /// 5 memory, 6 file.
 pub fn answer_tables<'a, S: Sources<'a>, D: Drafts, W: Write, E: Write>(
     alloc: Global,

@@ -1,8 +1,10 @@
-//! What goes wrong in `encode` and `decode`, its status, and its one line.
+//! What goes wrong in `encode`, `decode` and `kinds`, its status, and its one line.
 
 ghost use Rattle.std.specs.Prelude.{◌≡◌};
 ghost use Rattle.table_commands.specs.Written.{IsWriteFault};
 
+use record_core::Span;
+use refusals::explanation_of;
 use schema::SchemaRefusal;
 use std::alloc::{AllocError, AllocFailed, Global};
 use std::io;
@@ -22,6 +24,8 @@ pub enum Fault<'a> {
     /// The line's words don't fit the schema.
     Words(WordFault<'a>),
     Schema(schema::Fault, u64),
+    /// The number of a query's refusal, and its place.
+    Query(u8, Span),
     /// The file's path, what is wrong, the line, and the name of the column if it is of a cell.
     Table(&'a str, TableFault, u64, Option<Vec<u8>>),
 }
@@ -159,6 +163,19 @@ fn write_name<W: Write>(name: &[u8], out: &mut W) -> io::Result<()> {
     Ok(())
 }
 
+/// Writes the line of a query's refusal, with what its number means.
+fn write_query<W: Write>(code: u8, span: Span, out: &mut W) -> io::Result<()> {
+    let Span { start, end } = span;
+    match explanation_of(code) {
+        Some(row) => writeln!(
+            out,
+            "query refused {code} at {start}..{end}: {}",
+            row.summary
+        ),
+        None => writeln!(out, "query refused {code} at {start}..{end}"),
+    }
+}
+
 /// Writes the line of a fault of a file.
 fn write_table<W: Write>(
     path: &str,
@@ -183,7 +200,7 @@ impl Fault<'_> {
     {
         match self {
             Fault::Words(_) => 2,
-            Fault::Schema(_, _) => 3,
+            Fault::Schema(_, _) | Fault::Query(_, _) => 3,
             Fault::Table(_, _, _, _) => 4,
             Fault::NoMemory => 5,
             Fault::Read(_) | Fault::Write | Fault::Dictionary(_, _) => 6,
@@ -208,6 +225,7 @@ impl Fault<'_> {
                 let code = fault.code();
                 writeln!(out, "schema refused {code} at line {line}: {fault}")
             }
+            Fault::Query(code, span) => write_query(*code, *span, out),
             Fault::Table(path, fault, line, column) => match column {
                 Some(name) => write_table(path, *fault, *line, Some(name.as_slice()), out),
                 None => write_table(path, *fault, *line, None, out),

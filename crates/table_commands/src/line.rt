@@ -1,4 +1,4 @@
-//! The words of `encode` and `decode`, read by `clap`.
+//! The words of `encode`, `decode` and `kinds`, read by `clap`.
 
 use clap::{Arg, ArgMatches, Command, Error};
 use std::alloc::{AllocError, Global};
@@ -18,6 +18,11 @@ pub enum Asked<'a> {
         answer: &'a str,
         dictionary: Option<&'a str>,
         output: Option<&'a str>,
+    },
+    /// `loom kinds SCHEMA QUERY`
+    Kinds {
+        schema: &'a str,
+        query: &'a str,
     },
 }
 
@@ -78,11 +83,23 @@ fn decode_command<'a>(alloc: Global) -> Result<Command<'a>, AllocError> {
         ))
 }
 
+fn kinds_command<'a>(alloc: Global) -> Result<Command<'a>, AllocError> {
+    Command::new(alloc, "kinds")
+        .about("Check what a query computes by a schema, and say what its fields stand for")
+        .arg(schema_arg(alloc))?
+        .arg(
+            Arg::new(alloc, "QUERY")
+                .required(true)
+                .help("The file with the query; - is standard input"),
+        )
+}
+
 fn line_command<'a>(alloc: Global) -> Result<Command<'a>, AllocError> {
     Command::new(alloc, "loom")
         .subcommand_required(true)
         .subcommand(encode_command(alloc)?)?
-        .subcommand(decode_command(alloc)?)
+        .subcommand(decode_command(alloc)?)?
+        .subcommand(kinds_command(alloc)?)
 }
 
 /// What the matches of `encode` hold.
@@ -112,6 +129,14 @@ fn decode_asked<'a>(found: &ArgMatches<'a>) -> Option<Asked<'a>> {
     })
 }
 
+/// What the matches of `kinds` hold.
+fn kinds_asked<'a>(found: &ArgMatches<'a>) -> Option<Asked<'a>> {
+    Some(Asked::Kinds {
+        schema: found.get_str("SCHEMA")?,
+        query: found.get_str("QUERY")?,
+    })
+}
+
 /// What the words ask for; `None` where they hold no command after all.
 pub fn read_words<'a>(alloc: Global, words: &'a [&'a str]) -> Result<Option<Asked<'a>>, LineError> {
     let found = match line_command(alloc)?.try_get_matches_from(words) {
@@ -121,6 +146,7 @@ pub fn read_words<'a>(alloc: Global, words: &'a [&'a str]) -> Result<Option<Aske
     match found.subcommand() {
         Some(("encode", matches)) => Ok(encode_asked(alloc, matches)?),
         Some(("decode", matches)) => Ok(decode_asked(matches)),
+        Some(("kinds", matches)) => Ok(kinds_asked(matches)),
         _ => Ok(None),
     }
 }
