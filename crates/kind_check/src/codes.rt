@@ -5,14 +5,15 @@ ghost use Rattle.record_core.specs.declared.span.Refusal.TheVariants.{At};
 
 use record_core::{Refusal, Span};
 
-/// A scalar computes of a text, or of kinds that don't go together.
-pub const COMPUTED: u8 = 25;
+/// A scalar or an aggregate computes of a text, or of quantities that don't go together.
+pub const COMPUTED: u8 = 26;
+
 /// A condition compares what may not be compared, or orders texts.
-pub const COMPARED: u8 = 26;
+pub const COMPARED: u8 = 27;
+
 /// A join compares columns of different kinds.
-pub const JOINED: u8 = 27;
-/// An aggregate adds up days, times or texts, or seeks the least or greatest of texts.
-pub const AGGREGATED: u8 = 28;
+pub const JOINED: u8 = 28;
+
 /// Relations that are put together, or a loop's start and its body, have fields of different kinds.
 pub const PUT_TOGETHER: u8 = 29;
 

@@ -7,7 +7,7 @@ ghost use Rattle.kinds.specs.Kinds as spec;
 ghost use Rattle.kinds.specs.Relations as relations;
 ghost use Rattle.kind_check.specs.Found.{Adds, Finds, Tests};
 
-use crate::codes::{AGGREGATED, COMPUTED, JOINED, PUT_TOGETHER, at};
+use crate::codes::{COMPUTED, JOINED, PUT_TOGETHER, at};
 use crate::quantity::{merged_kind, opposite, same_kind};
 use crate::scalar::{column_kind, scalar_kind};
 use expr_tree::{Agg, Column, Pair, Scalar};
@@ -39,7 +39,7 @@ pub(crate) fn push_keys(
     ensures { Adds result fields.old.items fields.new.items (relations.all_of (map (slice_get kinds.now) (map (λ k. k.index) keys.now))) }
 {
     for key in keys {
-        fields.push(column_kind(kinds, key.index, AGGREGATED, key.span)?)?;
+        fields.push(column_kind(kinds, key.index, COMPUTED, key.span)?)?;
     }
     Ok(())
 }
@@ -53,7 +53,7 @@ fn summed(kind: Kind, span: Span) -> Result<Kind, Refusal>
             return Ok(Kind::Number(quantity));
         }
     }
-    Err(at(AGGREGATED, span))
+    Err(at(COMPUTED, span))
 }
 
 /// The kind of a least or greatest.
@@ -62,7 +62,7 @@ fn ordered(kind: Kind, span: Span) -> Result<Kind, Refusal>
 {
     match kind {
         Kind::Number(_) => Ok(kind),
-        Kind::Text => Err(at(AGGREGATED, span)),
+        Kind::Text => Err(at(COMPUTED, span)),
     }
 }
 
@@ -73,11 +73,11 @@ fn agg_kind(kinds: &[Kind], aggregate: &Agg) -> Result<Kind, Refusal>
     match aggregate {
         Agg::Count(_) => Ok(Kind::Number(Quantity::Whole)),
         Agg::Sum(span, column) => {
-            let kind = column_kind(kinds, column.index, AGGREGATED, column.span)?;
+            let kind = column_kind(kinds, column.index, COMPUTED, column.span)?;
             summed(kind, *span)
         }
         Agg::Min(span, column) | Agg::Max(span, column) => {
-            let kind = column_kind(kinds, column.index, AGGREGATED, column.span)?;
+            let kind = column_kind(kinds, column.index, COMPUTED, column.span)?;
             ordered(kind, *span)
         }
     }

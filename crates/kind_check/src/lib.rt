@@ -16,6 +16,6 @@ mod relation;
 mod scalar;
 mod scope;
 
-pub use codes::{AGGREGATED, COMPARED, COMPUTED, JOINED, PUT_TOGETHER};
+pub use codes::{COMPARED, COMPUTED, JOINED, PUT_TOGETHER};
 pub use columns::{merged, same_kinds};
 pub use program::check_kinds;

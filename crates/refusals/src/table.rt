@@ -6,7 +6,7 @@ ghost use Rattle.std.specs.List.{find};
 /// What a refusal means. Texts are UTF-8; a sentence of `text` is a line.
 #[derive(Clone, Copy, Debug, PartialEq, Eq)]
 pub struct Explanation {
-    /// Its number: 1 to 24 of queries, 25 to 30 of queries by a schema, 31 to 40 of a schedule's steps, 41 to 47 of the lines of inputs, of which 43, 44 and 46 are of a
+    /// Its number: 1 to 25 of queries, 26 to 30 of queries by a schema, 31 to 40 of a schedule's steps, 41 to 47 of the lines of inputs, of which 43, 44 and 46 are of a
     /// schedule's lines too.
     pub code: u8,
     /// What is wrong, in a phrase.
@@ -210,18 +210,18 @@ pub static OF_QUERIES: [Explanation; 19] = [
 ];
 
 /// The refusals of a query by a schema, each code once, in ascending order.
-pub static OF_KINDS: [Explanation; 6] = [
+pub static OF_KINDS: [Explanation; 5] = [
     Explanation {
-        code: 25,
-        summary: "a scalar of a text, or of quantities that don't go together",
-        place: "the scalar, or the column in it",
-        text: "Texts stand as numbers, of which nothing can be computed; days and times move by whole numbers alone.\n\
+        code: 26,
+        summary: "a scalar or an aggregate of a text, or of quantities that don't go together",
+        place: "the scalar or the aggregate, or the column in it",
+        text: "Texts stand as numbers, of which nothing can be computed. Days and times move by whole numbers, and have no sum.\n\
             Two days can be subtracted, which gives a whole number. `loom kinds` lists what each field stands for.",
         wrong: "",
         right: "",
     },
     Explanation {
-        code: 26,
+        code: 27,
         summary: "a comparison of what has no order, or of different kinds",
         place: "the comparison",
         text: "Texts are equal or not: their numbers have no order. A day can't be compared with a decimal number, say.\n\
@@ -230,20 +230,11 @@ pub static OF_KINDS: [Explanation; 6] = [
         right: "",
     },
     Explanation {
-        code: 27,
+        code: 28,
         summary: "a join of columns of different kinds",
         place: "the left column",
         text: "The columns of a pair have to stand for the same: a text for a text, a day for a day.\n\
             A decimal number meets only one with as many digits after the point.",
-        wrong: "",
-        right: "",
-    },
-    Explanation {
-        code: 28,
-        summary: "an aggregate of what can't be added up, or has no order",
-        place: "the aggregate, or a column that isn't there",
-        text: "`sum` adds up whole and decimal numbers; days, times and texts have no sum. `min` and `max` are of anything but texts.\n\
-            Count texts with `count`, or each once with `distinct` before it.",
         wrong: "",
         right: "",
     },
@@ -468,8 +459,8 @@ pub fn explanation_of(code: u8) -> Option<&'static Explanation>
     ensures { IfSome result (λ e. e.now.code ≡ code) }
 {
     match code {
-        0..=24 => of_query(code),
-        25..=30 => of_kind(code),
+        0..=25 => of_query(code),
+        26..=30 => of_kind(code),
         31..=40 => of_step(code),
         41..=255 => of_line(code),
     }

@@ -1,0 +1,136 @@
+//! A line of words, answered.
+
+ghost use Rattle.std.specs.Prelude.{◌≡◌, ◌↔◌, ◌⊎◌, IfErr, IsTrue, codes, map, true};
+ghost use Rattle.collector.specs.Watching.{inner_of};
+ghost use Rattle.table_commands.specs.Written.{IsOfTables, IsTablesWord, IsWriteFault};
+
+use crate::decoding::{Decoding, decode_answer};
+use crate::drafts::Drafts;
+use crate::encoding::{Encoding, encode_files};
+use crate::fault::Fault;
+use crate::line::{Asked, LineError, read_words};
+use crate::listing::{Listing, list_kinds};
+use collector::{Sources, Watched};
+use std::alloc::Global;
+use std::io::Write;
+
+/// Whether a word is `encode`, `decode` or `kinds`.
+fn is_command(word: &str) -> bool
+    ensures { IsTrue result ↔ IsTablesWord word.now }
+{
+    word == "encode" || word == "decode" || word == "kinds"
+}
+
+/// Whether a word is `help`.
+fn is_help(word: &str) -> bool
+    ensures { IsTrue result ↔ (word.now ≡ codes "help") }
+{
+    word == "help"
+}
+
+/// Whether a line, whose first word is the program's own, is one of `encode`, `decode` or `kinds`, or asks for their help.
+pub fn is_of_tables(words: &[&str]) -> bool
+    ensures { result ≡ true → IsOfTables (map (λ s. s.now) words.now) }
+{
+    match words {
+        [_, first, ..] if is_command(first) => true,
+        [_, first, second, ..] => is_help(first) && is_command(second),
+        _ => false,
+    }
+}
+
+/// Does what is asked for.
+fn obey<'a, S: Sources<'a>, D: Drafts, W: Write>(
+    alloc: Global,
+    sources: &S,
+    drafts: &D,
+    asked: &Asked<'a>,
+    out: &mut Watched<W>,
+) -> Result<(), Fault<'a>>
+    ensures { IfErr result (λ fault. IsWriteFault fault ⊎ (W.contents (inner_of out.new) ≡ W.contents (inner_of out.old))) }
+{
+    match asked {
+        Asked::Encode {
+            schema,
+            files,
+            dictionary,
+        } => {
+            let asked = Encoding {
+                schema: *schema,
+                files: files.as_slice(),
+                dictionary: *dictionary,
+            };
+            encode_files(alloc, sources, drafts, asked, out)
+        }
+        Asked::Decode {
+            schema,
+            answer,
+            dictionary,
+            output,
+        } => {
+            let asked = Decoding {
+                schema: *schema,
+                answer: *answer,
+                dictionary: *dictionary,
+                output: *output,
+            };
+            decode_answer(alloc, sources, asked, out)
+        }
+        Asked::Kinds { schema, query } => {
+            let asked = Listing {
+                schema: *schema,
+                query: *query,
+            };
+            list_kinds(alloc, sources, asked, out)
+        }
+    }
+}
+
+/// Reports a fault by one write, and gives its status.
+fn report<E: Write>(alloc: Global, fault: &Fault<'_>, err: &mut E) -> u8
+    ensures { IsWriteFault fault.now → result ≡ 6 }
+{
+    let mut text = Vec::new(alloc);
+    let _ = match fault.write_line(&mut text) {
+        Ok(()) => err.write_all(text.as_slice()),
+        Err(_) => fault.write_line(err),
+    };
+    fault.status()
+}
+
+/// Reports why words are refused, and gives the status.
+fn refuse<E: Write>(error: LineError, err: &mut E) -> u8 {
+    match error {
+        LineError::NoMemory => {
+            let _ = writeln!(err, "out of memory");
+            5
+        }
+        LineError::Words(error) => {
+            let _ = write!(err, "{error}");
+            2
+        }
+    }
+}
+
+/// Answers a line of `encode`, `decode` or `kinds`, whose first word is the program's own, and gives the status: 0 done, 2 command line, 3 schema or query, 4 a file's text,
+/// 5 memory, 6 file.
+pub fn answer_tables<'a, S: Sources<'a>, D: Drafts, W: Write, E: Write>(
+    alloc: Global,
+    sources: &S,
+    drafts: &D,
+    words: &'a [&'a str],
+    out: &mut Watched<W>,
+    err: &mut E,
+) -> u8
+    ensures { ((result ≡ 0) ⊎ (result ≡ 6)) ⊎ (W.contents (inner_of out.new) ≡ W.contents (inner_of out.old)) }
+{
+    let asked = match read_words(alloc, words) {
+        Ok(Some(asked)) => asked,
+        Ok(None) => return 2,
+        Err(error) => return refuse(error, err),
+    };
+    match obey(alloc, sources, drafts, &asked, out) {
+        Ok(()) => 0,
+        Err(fault) => report(alloc, &fault, err),
+    }
+}

@@ -1,0 +1,95 @@
+//! The command `decode`.
+
+ghost use Rattle.std.specs.Prelude.{◌≡◌, ◌⊎◌, IfErr};
+ghost use Rattle.collector.specs.Watching.{inner_of};
+ghost use Rattle.table_commands.specs.Written.{IsWriteFault};
+
+use crate::fault::{Fault, WordFault, table_fault};
+use crate::files::{dictionary_of, has_epochs, needs_dictionary, read_file, schema_of};
+use collector::{Sources, Watched, put};
+use csv_cells::Dictionary;
+use schema::{Schema, Table};
+use std::alloc::Global;
+use std::io::Write;
+use tables::decode;
+
+/// What `decode` is asked for.
+#[derive(Clone, Copy)]
+pub struct Decoding<'a> {
+    pub schema: &'a str,
+    pub answer: &'a str,
+    pub dictionary: Option<&'a str>,
+    pub output: Option<&'a str>,
+}
+
+/// The output that is asked for: by its name, or the only one.
+fn output_of<'s>(schema: &'s Schema, name: Option<&str>) -> Option<&'s Table> {
+    match name {
+        Some(name) => schema
+            .outputs
+            .iter()
+            .find(|table| table.name.as_slice() == name.as_bytes()),
+        None if schema.outputs.len() == 1 => schema.outputs.first(),
+        None => None,
+    }
+}
+
+/// The dictionary that is named, or one without texts.
+fn known_texts<'a, S: Sources<'a>>(
+    alloc: Global,
+    sources: &S,
+    schema: &Schema,
+    name: Option<&'a str>,
+) -> Result<Dictionary, Fault<'a>> {
+    match name {
+        Some(name) => dictionary_of(alloc, sources, name, false),
+        None if needs_dictionary(schema) => Err(Fault::Words(WordFault::NoDictionary)),
+        None => Ok(Dictionary::new(alloc)),
+    }
+}
+
+/// The CSV file of an answer.
+fn decoded<'a, S: Sources<'a>>(
+    alloc: Global,
+    sources: &S,
+    asked: Decoding<'a>,
+) -> Result<Vec<u8>, Fault<'a>> {
+    if asked.schema == "-" && asked.answer == "-" {
+        return Err(Fault::Words(WordFault::InputTwice));
+    }
+    let schema = schema_of(alloc, sources, asked.schema)?;
+    let Some(table) = output_of(&schema, asked.output) else {
+        return Err(Fault::Words(WordFault::NoOutput));
+    };
+    let dictionary = known_texts(alloc, sources, &schema, asked.dictionary)?;
+    let answer = read_file(alloc, sources, asked.answer)?;
+    match decode(
+        alloc,
+        table,
+        has_epochs(&schema),
+        &dictionary,
+        answer.as_slice(),
+    ) {
+        Ok(text) => Ok(text),
+        Err(refusal) => {
+            let headers = table.headers.as_slice();
+            Err(table_fault(alloc, asked.answer, headers, refusal))
+        }
+    }
+}
+
+/// Writes the CSV file of an answer. At a fault nothing is written, unless the writer failed.
+pub fn decode_answer<'a, S: Sources<'a>, W: Write>(
+    alloc: Global,
+    sources: &S,
+    asked: Decoding<'a>,
+    out: &mut Watched<W>,
+) -> Result<(), Fault<'a>>
+    ensures { IfErr result (λ fault. IsWriteFault fault ⊎ (W.contents (inner_of out.new) ≡ W.contents (inner_of out.old))) }
+{
+    let text = decoded(alloc, sources, asked)?;
+    match put(out, text.as_slice()) {
+        Ok(()) => Ok(()),
+        Err(_) => Err(Fault::Write),
+    }
+}
