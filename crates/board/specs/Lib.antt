@@ -19,4 +19,5 @@ pub mod Picks
 pub mod Codes
 pub mod Fresh
 pub mod Looks
+pub mod Batches
 pub mod Forgetting

@@ -1,24 +1,62 @@
 //! Batches by epoch.
 
 ghost use Rattle.std.specs.Prelude.{◌≡◌, ◌++◌, ◌∷◌, [], List, ℤ, ◌+◌, ◌<◌, ◌≤◌, slice_index_or, vec_len, vec_capacity, IfErr, IfOk, OnOk, OnErr};
+ghost use Rattle.board.specs.Batches.{batches_in};
 ghost use Rattle.board.specs.Steps.{more_at};
 
 use rows::Batch;
 use std::alloc::Global;
 use std::marker::Model;
+use std::mem::replace;
+use std::slice::from_ref;
+
+/// Some batches, in order. One alone takes no memory of its own, since of many small epochs each has one.
+#[derive(Drop)]
+enum Listed {
+    One(Batch),
+    Many(Vec<Batch>),
+}
+
+/// The same with a batch more at the end. If memory is short, both come back.
+fn longer(alloc: Global, listed: Listed, batch: Batch) -> Result<Listed, (Listed, Batch)>
+    ensures ok { IfOk result (λ l. batches_in l ≡ batches_in listed ++ batch ∷ []) }
+    ensures same { IfErr result (λ back. batches_in back.0 ≡ batches_in listed) }
+    ensures back { IfErr result (λ back. back.1 ≡ batch) }
+{
+    match listed {
+        Listed::One(first) => match Vec::with_capacity(alloc, 2) {
+            Ok(mut both) => {
+                both.push_reserved(first);
+                both.push_reserved(batch);
+                Ok(Listed::Many(both))
+            }
+            Err(_) => Err((Listed::One(first), batch)),
+        },
+        Listed::Many(mut batches) => {
+            if batches.is_empty() {
+                return Ok(Listed::One(batch));
+            }
+            match batches.push(batch) {
+                Ok(()) => Ok(Listed::Many(batches)),
+                Err(failed) => Err((Listed::Many(batches), failed.value)),
+            }
+        }
+    }
+}
 
 /// A list of batches, in order.
 #[derive(Drop)]
 pub struct Batches {
-    list: Vec<Batch>,
+    list: Listed,
 }
 
 impl Model for Batches {
     ghost use Rattle.std.specs.Prelude.{List, ℤ};
+    ghost use Rattle.board.specs.Batches.{batches_in};
 
     ghost Value = { List (List (List ℤ)) };
 
-    ghost view = { λ b. b.list.items };
+    ghost view = { λ b. batches_in b.list };
 }
 
 impl Batches {
@@ -27,39 +65,44 @@ impl Batches {
         ensures { result ≡ [] }
     {
         Batches {
-            list: Vec::new(alloc),
+            list: Listed::Many(Vec::new(alloc)),
         }
     }
 
-    /// A list of one batch, with room for no more, since most small epochs have one. Gives it back if memory is short.
-    fn one(alloc: Global, batch: Batch) -> Result<Batches, Batch>
-        ensures ok { IfOk result (λ b. b ≡ batch ∷ []) }
-        ensures back { IfErr result (λ back. back ≡ batch) }
+    /// A list of one batch.
+    fn one(batch: Batch) -> Batches
+        ensures { result ≡ batch ∷ [] }
     {
-        match Vec::with_capacity(alloc, 1) {
-            Ok(mut list) => {
-                list.push_reserved(batch);
-                Ok(Batches { list })
-            }
-            Err(_) => Err(batch),
+        Batches {
+            list: Listed::One(batch),
         }
     }
 
     pub fn as_slice(&self) -> &[Batch]
         ensures { result.now ≡ self.now }
     {
-        self.list.as_slice()
+        match &self.list {
+            Listed::One(batch) => from_ref(batch),
+            Listed::Many(batches) => batches.as_slice(),
+        }
     }
 
     /// Appends a batch, or gives it back if memory is short.
-    pub fn push(&mut self, batch: Batch) -> Result<(), Batch>
+    pub fn push(&mut self, alloc: Global, batch: Batch) -> Result<(), Batch>
         ensures ok { OnOk result (self.new ≡ self.old ++ batch ∷ []) }
         ensures err { OnErr result (self.new ≡ self.old) }
         ensures back { IfErr result (λ back. back ≡ batch) }
     {
-        match self.list.push(batch) {
-            Ok(()) => Ok(()),
-            Err(failed) => Err(failed.value),
+        let listed = replace(&mut self.list, Listed::Many(Vec::new(alloc)));
+        match longer(alloc, listed, batch) {
+            Ok(list) => {
+                self.list = list;
+                Ok(())
+            }
+            Err((list, batch)) => {
+                self.list = list;
+                Err(batch)
+            }
         }
     }
 }
@@ -109,19 +152,14 @@ impl Epochs {
         let at = epoch as usize;
         let len = self.lists.len();
         if at < len {
-            return self.lists[at].push(batch);
+            return self.lists[at].push(self.alloc, batch);
         }
         if self.lists.reserve(at - len + 1).is_err() {
             return Err(batch);
         }
-        match Batches::one(self.alloc, batch) {
-            Ok(fresh) => {
-                pad(&mut self.lists, self.alloc, at);
-                self.lists.push_reserved(fresh);
-                Ok(())
-            }
-            Err(batch) => Err(batch),
-        }
+        pad(&mut self.lists, self.alloc, at);
+        self.lists.push_reserved(Batches::one(batch));
+        Ok(())
     }
 }
 

@@ -118,7 +118,7 @@ pub fn share_batches(alloc: Global, batches: &[Batch]) -> Result<Batches, NoMemo
         let Ok(shared) = batch.share() else {
             return Err(NoMemory);
         };
-        if copy.push(shared).is_err() {
+        if copy.push(alloc, shared).is_err() {
             return Err(NoMemory);
         }
     }

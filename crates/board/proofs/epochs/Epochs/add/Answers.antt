@@ -16,11 +16,11 @@ returns-then-at-len-clause-ok c =
     ∙ ap (more_at c.args.epoch (c.args.batch ∷ [])) c.self.view_is))
     c.push.ensures.ok
 
-pub returns-in-Ok-clause-ok : goal.returns-in-Ok-clause-ok
-returns-in-Ok-clause-ok c =
+pub returns-clause-ok : goal.returns-clause-ok
+returns-clause-ok c =
     let full : length c.pad.new.lists.items ≡ c.args.epoch = omega arith in
     let items : c.push_reserved.new.self.items ≡ c.pad.new.lists.items ++ (c.args.batch ∷ []) ∷ [] =
-    c.push_reserved.ensures.items ∙ ap (λ (x : List (List (List ℤ))). c.pad.new.lists.items ++ x ∷ []) c.in-Ok.ensures.ok in
+    c.push_reserved.ensures.items ∙ ap (λ (x : List (List (List ℤ))). c.pad.new.lists.items ++ x ∷ []) c.one.ensures in
     items
     ∙ sym (more-new c.args.epoch (c.args.batch ∷ []) c.pad.new.lists.items full)
     ∙ c.pad.ensures.same (c.args.batch ∷ [])
