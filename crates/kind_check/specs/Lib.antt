@@ -1,3 +1,4 @@
 pub mod Found
 pub mod Scopes
 pub mod Operators
+pub mod Steps

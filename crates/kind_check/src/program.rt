@@ -1,12 +1,13 @@
 //! Kinds of the fields of a program's outputs.
 
-ghost use Rattle.std.specs.Prelude.{◌≡◌, ◌∷◌, ◌++◌, [], List, None, map, IfErr, OnOk};
+ghost use Rattle.std.specs.Prelude.{◌≡◌, ◌∷◌, ◌++◌, [], map, IfErr, OnOk};
 ghost use Rattle.record_core.specs.declared.span.Refusal.TheVariants.{NoMemory};
-ghost use Rattle.semantics.specs.Query as query;
 ghost use Rattle.expr_tree.specs.Views.{let_tree, output_tree, program_tree};
 ghost use Rattle.expr_tree.specs.Plain.{plain_input, plain_let, plain_output, plain_program};
 ghost use Rattle.kinds.specs.Relations as relations;
-ghost use Rattle.kind_check.specs.Found.{Finds, IfSomeKinds, IsRefused};
+ghost use Rattle.expr_tree.specs.PlainLists.{plain_lets, plain_outputs};
+ghost use Rattle.kind_check.specs.Steps.{DeclaresLet, LeadsNowhere, LeadsTo};
+ghost use Rattle.kind_check.specs.Found.{Finds, IsRefused};
 ghost use Rattle.kind_check.specs.Scopes.{scope_of};
 
 use crate::columns::copied;
@@ -45,7 +46,7 @@ fn declare_let<A: Allocator>(
     scope: &mut Scope,
     item: &Let<A>,
 ) -> Result<(), Refusal>
-    ensures ok { OnOk result (IfSomeKinds (relations.rel_kinds named.now (plain_let (let_tree item.now)).value (scope_of scope.old)) (λ ks. scope_of scope.new ≡ relations.entry (plain_let (let_tree item.now)).name ks ∷ scope_of scope.old)) }
+    ensures ok { OnOk result (DeclaresLet named.now (plain_let (let_tree item.now)) (scope_of scope.old) (scope_of scope.new)) }
     ensures err { IfErr result (λ e. IsRefused e → relations.rel_kinds named.now (plain_let (let_tree item.now)).value (scope_of scope.old) ≡ None) }
 {
     let kinds = kinds_of(alloc, named, scope, &item.relation)?;
@@ -59,8 +60,8 @@ fn declare_lets<A: Allocator>(
     scope: &mut Scope,
     lets: &[Let<A>],
 ) -> Result<(), Refusal>
-    ensures ok { OnOk result ((outputs : List query.Output) → relations.rest_kinds named.now (scope_of scope.old) (map plain_let (map let_tree lets.now)) outputs ≡ relations.rest_kinds named.now (scope_of scope.new) [] outputs) }
-    ensures err { IfErr result (λ e. IsRefused e → (outputs : List query.Output) → relations.rest_kinds named.now (scope_of scope.old) (map plain_let (map let_tree lets.now)) outputs ≡ None) }
+    ensures ok { OnOk result (LeadsTo named.now (plain_lets lets.now) (scope_of scope.old) (scope_of scope.new)) }
+    ensures err { IfErr result (λ e. IsRefused e → LeadsNowhere named.now (plain_lets lets.now) (scope_of scope.old)) }
 {
     for item in lets {
         declare_let(alloc, named, scope, item)?;
@@ -75,7 +76,7 @@ fn output_kinds<A: Allocator>(
     scope: &mut Scope,
     outputs: &[Output<A>],
 ) -> Result<Vec<Vec<Kind>>, Refusal>
-    ensures { Finds (λ v. map (λ w. w.items) v.items) result (relations.all_of (map (λ o. relations.rel_kinds named.now o.value (scope_of scope.old)) (map plain_output (map output_tree outputs.now)))) }
+    ensures { Finds (λ v. map (λ w. w.items) v.items) result (relations.rest_kinds named.now (scope_of scope.old) [] (plain_outputs outputs.now)) }
 {
     let mut kinds = Vec::new(alloc);
     for output in outputs {

@@ -5,6 +5,7 @@ ghost use Rattle.expr_tree.specs.Views.{rel_tree};
 ghost use Rattle.expr_tree.specs.Plain.{plain_agg, plain_rel};
 ghost use Rattle.kinds.specs.Kinds as spec;
 ghost use Rattle.kinds.specs.Relations as relations;
+ghost use Rattle.kind_check.specs.Steps.{turn_kinds};
 ghost use Rattle.kind_check.specs.Found.{Finds};
 ghost use Rattle.kind_check.specs.Scopes.{scope_of};
 
@@ -95,7 +96,7 @@ fn turned<A: Allocator>(
     name: &Name,
     body: &Rel<A>,
 ) -> Result<Vec<Kind>, Refusal>
-    ensures kinds { Finds (λ v. v.items) result (relations.rel_kinds named.now (plain_rel (rel_tree body.now)) (relations.entry name.now kinds.now ∷ scope_of scope.old)) }
+    ensures kinds { Finds (λ v. v.items) result (turn_kinds named.now (plain_rel (rel_tree body.now)) name.now (scope_of scope.old) kinds.now) }
     ensures scope { OnOk result (scope_of scope.new ≡ scope_of scope.old) }
 {
     let kinds = copied(alloc, kinds)?;
@@ -117,7 +118,7 @@ fn settled<A: Allocator>(
     name: &Name,
     body: &Rel<A>,
 ) -> Result<Vec<Kind>, Refusal>
-    ensures kinds { Finds (λ v. v.items) result (relations.settled start.items (λ ks. relations.rel_kinds named.now (plain_rel (rel_tree body.now)) (relations.entry name.now ks ∷ scope_of scope.old))) }
+    ensures kinds { Finds (λ v. v.items) result (relations.settled start.items (turn_kinds named.now (plain_rel (rel_tree body.now)) name.now (scope_of scope.old))) }
     ensures scope { OnOk result (scope_of scope.new ≡ scope_of scope.old) }
 {
     let first = turned(alloc, named, scope, &start, name, body)?;
