@@ -9,6 +9,8 @@ use Rattle.command_line.specs.declared.line_options.GraphForm.{GraphForm}
 use Rattle.command_line.specs.declared.line_options.GraphForm.TheVariants.{Lines, Dot}
 use Rattle.command_line.specs.declared.query.Query.{Query}
 use Rattle.command_line.specs.declared.query.Query.TheVariants.{File, Inline}
+use Rattle.command_line.specs.declared.script_form.ScriptForm.{ScriptForm}
+use Rattle.command_line.specs.declared.script_form.ScriptForm.TheVariants.{Postgres, Sqlite, Spark}
 use Rattle.command_line.specs.declared.line_options.Options.{Options}
 use Rattle.command_line.specs.declared.line_options.Options.TheVariants.{Run, Follow, Check, Graph, Format, Sql, Replay, Explain}
 
@@ -58,9 +60,13 @@ graph_app = queried (with_rule (with_rule (new_app (codes "graph")) (flag_rule (
 abbrev pub format_app : App
 format_app = queried (new_app (codes "format"))
 
--- `sql QUERY`, with or without `--wrapped`
+-- an option, `--` and its name, and then a word
+abbrev pub named_rule : Text → Rule
+named_rule id = record (new_rule id) { long = Some id; value_names = 1 }
+
+-- `sql QUERY`, with or without `--wrapped`, `--dialect NAME` and `--output NAME`
 abbrev pub sql_app : App
-sql_app = queried (with_rule (new_app (codes "sql")) (flag_rule (codes "wrapped")))
+sql_app = queried (with_rule (with_rule (with_rule (new_app (codes "sql")) (flag_rule (codes "wrapped"))) (named_rule (codes "dialect"))) (named_rule (codes "output")))
 
 -- `--end-mark`
 abbrev pub end_mark_rule : Rule
@@ -164,6 +170,25 @@ abbrev pub IsAskedQuery : List Row → Query → Type 0
 IsAskedQuery rows (File path) = (first_of (codes "QUERY") rows ≡ Some path.now) × IsFlag (codes "inline") rows false
 IsAskedQuery rows (Inline text) = (first_of (codes "QUERY") rows ≡ Some text.now) × IsFlag (codes "inline") rows true
 
+-- the database that is named; PostgreSQL where none is
+abbrev pub IsAskedDatabase : Option Text → Text → Type 0
+IsAskedDatabase None database = database ≡ codes "postgres"
+IsAskedDatabase (Some word) database = database ≡ word
+
+-- the form of a script for a database, whose numbers wrap or don't
+abbrev pub IsFormFor : (database : Text) → (wrapped : Bool) → ScriptForm → Type 0
+IsFormFor database wrapped (Postgres w) = (database ≡ codes "postgres") × (w ≡ wrapped)
+IsFormFor database wrapped Sqlite = (database ≡ codes "sqlite") × (wrapped ≡ false)
+IsFormFor database wrapped (Spark w) = (database ≡ codes "spark") × (w ≡ wrapped)
+
+-- the form is as the option and the flag ask
+pub record IsForm (rows : List Row) (form : ScriptForm) : Type 0 where
+  pub database : Text
+  pub wrapped : Bool
+  pub is_database : IsAskedDatabase (first_of (codes "dialect") rows) database
+  pub is_wrapped : IsFlag (codes "wrapped") rows wrapped
+  pub is_asked : IsFormFor database wrapped form
+
 -- the input that is named is followed; standard input where none is
 abbrev pub IsAskedInput : Option Text → Text → Type 0
 IsAskedInput None input = input ≡ codes "-"
@@ -188,8 +213,9 @@ HoldsAt name rows (Graph query form heap explain) =
     × IsAskedHeap (one_of (codes "heap") rows) heap
     × IsFlag (codes "explain") rows explain
 HoldsAt name rows (Format query explain) = (name ≡ codes "format") × IsAskedQuery rows query × IsFlag (codes "explain") rows explain
-HoldsAt name rows (Sql query wrapped explain) =
-    (name ≡ codes "sql") × IsAskedQuery rows query × IsFlag (codes "wrapped") rows wrapped × IsFlag (codes "explain") rows explain
+HoldsAt name rows (Sql query form output explain) =
+    (name ≡ codes "sql") × IsAskedQuery rows query × IsForm rows form × (option_map (λ s. s.now) output ≡ first_of (codes "output") rows)
+    × IsFlag (codes "explain") rows explain
 HoldsAt name rows (Replay query schedule workers views explain) =
     (name ≡ codes "replay") × IsAskedQuery rows query × (first_of (codes "SCHEDULE") rows ≡ Some schedule.now)
     × AreAskedFor (one_of (codes "workers") rows) workers.count
@@ -221,7 +247,7 @@ NamesInputTwice (Check query (Some input) heap explain) = AreBothInput query inp
 NamesInputTwice (Check query None heap explain) = ⊥
 NamesInputTwice (Graph query form heap explain) = ⊥
 NamesInputTwice (Format query explain) = ⊥
-NamesInputTwice (Sql query wrapped explain) = ⊥
+NamesInputTwice (Sql query form output explain) = ⊥
 NamesInputTwice (Replay query schedule workers views explain) = AreBothInput query schedule.now
 NamesInputTwice (Explain code) = ⊥
 

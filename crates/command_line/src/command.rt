@@ -3,8 +3,8 @@
 ghost use Rattle.std.specs.Prelude.{◌≡◌, map, option_map, IfErr, IfOk, IfSome, IsErrOf, codes, false};
 ghost use Rattle.clap.specs.Words.{app_of, first_of, found_of, new_app, one_of, rows_of, rule_of};
 ghost use Rattle.clap.specs.declared.builder.Command.TheViews.{out-Command as fields_of};
-ghost use Rattle.command_line.specs.Line.{AreAskedFor, AreStats, AsksTwice, Asks, Holds, HoldsAt, IsAskedFirst, IsAskedHeap, IsAskedInput, IsAskedQuery, IsFlag, IsNumber};
-ghost use Rattle.command_line.specs.Line.{check_app, explain_app, first_epoch_rule, flag_rule, follow_app, format_app, graph_app, inline_rule, line_app, queried, sql_app};
+ghost use Rattle.command_line.specs.Line.{AreAskedFor, AreStats, AsksTwice, Asks, Holds, HoldsAt, IsAskedDatabase, IsAskedFirst, IsAskedHeap, IsAskedInput, IsAskedQuery, IsFlag, IsForm, IsNumber};
+ghost use Rattle.command_line.specs.Line.{check_app, explain_app, first_epoch_rule, flag_rule, follow_app, format_app, graph_app, inline_rule, line_app, named_rule, queried, sql_app};
 ghost use Rattle.command_line.specs.Line.{optional_rule, program_app, range_rule, replay_app, run_app, word_rule};
 ghost use Rattle.command_line.specs.Faults.{IsOfWords};
 ghost use Rattle.command_line.specs.declared.line_fault.LineFault.TheVariants as fault;
@@ -14,6 +14,7 @@ use crate::heap_size::HeapSize;
 use crate::line_fault::LineFault;
 use crate::line_options::{GraphForm, Options};
 use crate::query::Query;
+use crate::script_form::ScriptForm;
 use crate::standard_input::is_input_twice;
 use crate::unknown_words::{
     Misplaced, OutOfRange, Unknown, Unrecognized, misplaced_option, unknown_option,
@@ -125,6 +126,14 @@ fn first_epoch_arg<'a>(alloc: Global) -> Arg<'a>
         .help("What the first epoch is called; default 0")
 }
 
+/// An option: `--` and its name, and then a word.
+fn named_arg<'a>(alloc: Global, id: &'a str, about: &'a str) -> Arg<'a>
+    ensures rule { rule_of result ≡ named_rule id.entry.now }
+    ensures local { result.global ≡ false }
+{
+    Arg::new(alloc, id).long(id).value_name("NAME").help(about)
+}
+
 /// The option `--heap BYTES`.
 fn heap_arg<'a>(alloc: Global) -> Arg<'a>
     ensures rule { rule_of result ≡ range_rule (codes "heap") 64 16777216 }
@@ -201,16 +210,23 @@ fn sql_command<'a>(alloc: Global) -> Result<Command<'a>, AllocError>
     ensures app { IfOk result (λ c. app_of c ≡ sql_app) }
     ensures local { IfOk result (λ c. (fields_of c).has_globals ≡ false) }
 {
-    let command = named(
-        alloc,
-        "sql",
-        "Write a query as a script of SQL, for PostgreSQL",
-    );
-    let command = command.arg(flag_arg(
-        alloc,
-        "wrapped",
-        "Wrap numbers at 64 bits; else one of more bits ends the script with an error",
-    ))?;
+    let command = named(alloc, "sql", "Write a query as a script of SQL");
+    let command = command
+        .arg(flag_arg(
+            alloc,
+            "wrapped",
+            "Wrap numbers at 64 bits; else one of more bits ends the script with an error",
+        ))?
+        .arg(named_arg(
+            alloc,
+            "dialect",
+            "The database: postgres, sqlite or spark; default postgres",
+        ))?
+        .arg(named_arg(
+            alloc,
+            "output",
+            "Only the output of that name, and the tables that it needs",
+        ))?;
     with_query(alloc, command)
 }
 
@@ -470,15 +486,47 @@ fn format_options<'a>(found: &ArgMatches<'a>) -> Option<Options<'a>>
     Some(Options::Format { query, explain })
 }
 
+/// The word for the database that a script is for.
+fn database_of<'a>(found: &ArgMatches<'a>) -> &'a str
+    ensures { IsAskedDatabase (first_of (codes "dialect") (rows_of (found_of found.now))) result.now }
+{
+    match text_of(found, "dialect") {
+        None => "postgres",
+        Some(word) => word,
+    }
+}
+
+/// The form of a script: none where the word is no database's, or where numbers are to wrap and can't.
+fn form_of(found: &ArgMatches<'_>) -> Option<ScriptForm>
+    ensures { IfSome result (IsForm (rows_of (found_of found.now))) }
+{
+    let database = database_of(found);
+    let wrapped = flag_of(found, "wrapped");
+    match database.as_bytes() {
+        b"postgres" => Some(ScriptForm::Postgres { wrapped }),
+        b"spark" => Some(ScriptForm::Spark { wrapped }),
+        b"sqlite" => {
+            if wrapped {
+                None
+            } else {
+                Some(ScriptForm::Sqlite)
+            }
+        }
+        _ => None,
+    }
+}
+
 fn sql_options<'a>(found: &ArgMatches<'a>) -> Option<Options<'a>>
     ensures { IfSome result (HoldsAt (codes "sql") (rows_of (found_of found.now))) }
 {
     let query = query_of(found)?;
-    let wrapped = flag_of(found, "wrapped");
+    let form = form_of(found)?;
+    let output = text_of(found, "output");
     let explain = flag_of(found, "explain");
     Some(Options::Sql {
         query,
-        wrapped,
+        form,
+        output,
         explain,
     })
 }
@@ -538,12 +586,33 @@ fn options_at<'a>(name: &str, found: &ArgMatches<'a>) -> Option<Options<'a>>
     }
 }
 
-/// The same, or a fault where they hold no command or not all of its words.
-fn line_options<'a>(name: &str, found: &ArgMatches<'a>) -> Result<Options<'a>, LineFault>
+/// The fault of matches that hold no options: where they name a database, it is none, or its numbers can't wrap.
+fn unheld(alloc: Global, found: &ArgMatches<'_>) -> LineFault
+    ensures { IsOfWords result }
+{
+    match text_of(found, "dialect") {
+        None => LineFault::NoCommand,
+        Some("sqlite") => LineFault::Unwrapped,
+        Some(word) => match String::from_str(alloc, word) {
+            Ok(word) => LineFault::Dialect { word },
+            Err(_) => LineFault::NoMemory,
+        },
+    }
+}
+
+/// The same, or a fault where they hold no command, not all of its words, or a word that isn't known.
+fn line_options<'a>(
+    alloc: Global,
+    name: &str,
+    found: &ArgMatches<'a>,
+) -> Result<Options<'a>, LineFault>
     ensures held { IfOk result (HoldsAt name.now (rows_of (found_of found.now))) }
     ensures fault { IfErr result IsOfWords }
 {
-    options_at(name, found).ok_or(LineFault::NoCommand)
+    match options_at(name, found) {
+        Some(options) => Ok(options),
+        None => Err(unheld(alloc, found)),
+    }
 }
 
 /// The fault of words that clap refuses.
@@ -632,7 +701,7 @@ fn held_options<'a>(alloc: Global, words: &'a [&'a str]) -> Result<Options<'a>, 
     };
     match found.subcommand() {
         None => Err(LineFault::NoCommand),
-        Some((name, matches)) => line_options(name, matches),
+        Some((name, matches)) => line_options(alloc, name, matches),
     }
 }
 

@@ -25,6 +25,14 @@ pub enum LineFault {
     FirstEpoch {
         word: String,
     },
+    /// The word after `--dialect` is no database's.
+    #[error("error: invalid value '{word}' for '--dialect <NAME>': {word} is not postgres, sqlite or spark")]
+    Dialect {
+        word: String,
+    },
+    /// Numbers are to wrap where they can't.
+    #[error("error: '--wrapped' cannot be used with '--dialect sqlite': SQLite has no numbers of more than 64 bits")]
+    Unwrapped,
     /// An option that the command doesn't take, and others do: its name, and theirs.
     #[error("error: unexpected argument '--{option}' found; it is an option of {commands}")]
     Misplaced {
@@ -68,6 +76,8 @@ impl LineFault {
             LineFault::Workers { .. }
             | LineFault::Heap { .. }
             | LineFault::FirstEpoch { .. }
+            | LineFault::Dialect { .. }
+            | LineFault::Unwrapped
             | LineFault::Misplaced { .. }
             | LineFault::Unknown { .. }
             | LineFault::Unrecognized { .. }

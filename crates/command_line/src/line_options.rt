@@ -3,6 +3,7 @@
 use crate::first_epoch::FirstEpoch;
 use crate::heap_size::HeapSize;
 use crate::query::Query;
+use crate::script_form::ScriptForm;
 use crate::worker_count::Workers;
 
 /// What the words of the line ask for. Paths are kept as they were given. With `-e` QUERY is the query itself.
@@ -50,10 +51,12 @@ pub enum Options<'a> {
         query: Query<'a>,
         explain: bool,
     },
-    /// `loom sql QUERY`, by wrapped arithmetic with `--wrapped`, and a fault explained with `--explain`
+    /// `loom sql QUERY`, for PostgreSQL or `--dialect NAME`, by wrapped arithmetic with `--wrapped`; with `--output NAME` of that output alone; and
+    /// a fault explained with `--explain`
     Sql {
         query: Query<'a>,
-        wrapped: bool,
+        form: ScriptForm,
+        output: Option<&'a str>,
         explain: bool,
     },
     /// `loom replay QUERY SCHEDULE`, on one worker or `--workers N`; with `--views` each has a view of its own; and a fault explained with

@@ -47,7 +47,7 @@ use normalise::normalise;
 use parser::parse;
 use record_core::{NoMemory, Refusal};
 pub use scripting::script_text;
-pub use sql::Arithmetic;
+pub use sql::{Arithmetic, Form, Request};
 use std::alloc::{Allocator, Global};
 use typing::{Typed, check};
 pub use warnings::warnings_of;

@@ -8,7 +8,7 @@ use Rattle.schedule.specs.declared.verb.ViewKind.{ViewKind}
 use Rattle.console.specs.Checks.{CheckEnds}
 use Rattle.console.specs.Formats.{FormatEnds}
 use Rattle.console.specs.Scripts.{ScriptEnds}
-use Rattle.sql.specs.declared.scalar.Arithmetic.{Arithmetic}
+use Rattle.sql.specs.Asked.{Asked}
 use Rattle.console.specs.Graphs.{GraphEnds}
 use Rattle.console.specs.Heeded.{Heeds}
 use Rattle.console.specs.InputChecks.{CheckInputEnds}
@@ -85,7 +85,7 @@ module _ {Q : Type 0} (left : Q → Option (List ℕ)) (q₀ q₁ : Watched Q) (
   pub format_unread : FormatsOnHanded left q₀ q₁ old old (Err e)
   format_unread = one_unread left q₀ q₁ (λ q f. FormatEnds q old old (Err f)) e (λ q. refl) (λ q. refl) h u
 
-  pub script_unread : (a : Arithmetic) → ScriptsOnHanded a left q₀ q₁ old old (Err e)
+  pub script_unread : (a : Asked) → ScriptsOnHanded a left q₀ q₁ old old (Err e)
   script_unread a = one_unread left q₀ q₁ (λ q f. ScriptEnds a q old old (Err f)) e (λ q. refl) (λ q. refl) h u
 
   pub graph_unread : (form : GraphForm) → GraphsOnHanded form left q₀ q₁ old old (Err e)

@@ -4,8 +4,13 @@ use Rattle.command_line.specs.declared.line_options.Options.{Options}
 use Rattle.command_line.specs.declared.line_options.Options.TheVariants.{Run, Follow, Check, Graph, Format, Sql, Replay, Explain}
 use Rattle.command_line.specs.declared.query.Query.{Query}
 use Rattle.command_line.specs.declared.query.Query.TheVariants.{File, Inline}
-use Rattle.sql.specs.declared.scalar.Arithmetic.{Arithmetic}
-use Rattle.sql.specs.declared.scalar.Arithmetic.TheVariants.{Plain, Wrapped}
+use Rattle.command_line.specs.declared.script_form.ScriptForm.{ScriptForm}
+use Rattle.command_line.specs.declared.script_form.ScriptForm.TheVariants as script
+use Rattle.sql.specs.Asked.{Asked}
+use Rattle.sql.specs.declared.form.Arithmetic.{Arithmetic}
+use Rattle.sql.specs.declared.form.Arithmetic.TheVariants.{Plain, Wrapped}
+use Rattle.sql.specs.declared.form.Form.{Form}
+use Rattle.sql.specs.declared.form.Form.TheVariants as form
 
 -- the bytes of the text of each name, where they are known
 abbrev pub Known : Type 0
@@ -35,14 +40,24 @@ asks_inline (Follow query input workers first end_mark explain) = on_line query
 asks_inline (Check query input heap explain) = on_line query
 asks_inline (Graph query form heap explain) = on_line query
 asks_inline (Format query explain) = on_line query
-asks_inline (Sql query wrapped explain) = on_line query
+asks_inline (Sql query form output explain) = on_line query
 asks_inline (Replay query schedule workers views explain) = on_line query
 asks_inline (Explain code) = false
 
--- the arithmetic that the flag asks for
+-- the arithmetic that a flag asks for
 abbrev pub arithmetic_asked : Bool → Arithmetic
 arithmetic_asked false = Plain
 arithmetic_asked true = Wrapped
+
+-- the form that is asked for
+abbrev pub form_asked : ScriptForm → Form
+form_asked (script.Postgres wrapped) = form.Postgres (arithmetic_asked wrapped)
+form_asked script.Sqlite = form.Sqlite
+form_asked (script.Spark wrapped) = form.Spark (arithmetic_asked wrapped)
+
+-- the script that is asked for
+abbrev pub script_asked : ScriptForm → Option (List ℕ) → Asked
+script_asked f output = record { form = form_asked f; output = output }
 
 -- where the query of the options is found
 abbrev pub queries_of : Options → Known → Known

@@ -14,8 +14,8 @@ use Rattle.command_line.specs.declared.worker_count.Workers.{Workers}
 use Rattle.diagnostics.specs.Explanations.{ExplanationEnds}
 use Rattle.diagnostics.specs.Faults.{status_of}
 use Rattle.diagnostics.specs.declared.fault.Fault.{Fault}
-use Rattle.sql.specs.declared.scalar.Arithmetic.{Arithmetic}
-use Rattle.console.specs.Asked.{Known, arithmetic_asked, known_inputs, queries_of, query_word}
+use Rattle.sql.specs.Asked.{Asked}
+use Rattle.console.specs.Asked.{Known, script_asked, known_inputs, queries_of, query_word}
 use Rattle.console.specs.Heeded.{Heeds}
 use Rattle.console.specs.Readings.{ChecksBothOver, ChecksOver, FollowsOver, FormatsOver, GraphsOver, ScriptsOver, read_part}
 use Rattle.console.specs.Replayed.{ReplayEnds}
@@ -44,7 +44,7 @@ FormatsOn queries query old new result = FormatsOver (queries query) old new res
 abbrev pub GraphsOn : (queries : Known) → GraphForm → (query : List ℕ) → Option (List ℕ) → Option (List ℕ) → Result (Unit {0}) Fault → Type 0
 GraphsOn queries form query old new result = GraphsOver form (queries query) old new result
 
-abbrev pub ScriptsOn : (queries : Known) → Arithmetic → (query : List ℕ) → Option (List ℕ) → Option (List ℕ) → Result (Unit {0}) Fault → Type 0
+abbrev pub ScriptsOn : (queries : Known) → Asked → (query : List ℕ) → Option (List ℕ) → Option (List ℕ) → Result (Unit {0}) Fault → Type 0
 ScriptsOn queries a query old new result = ScriptsOver a (queries query) old new result
 
 abbrev pub ReplaysOn : (queries texts : Known) → Workers → ViewKind → (query schedule : List ℕ) → Option (List ℕ) → Option (List ℕ) → Result (Unit {0}) Fault → Type 0
@@ -63,7 +63,7 @@ EndsOn queries texts (Follow query input workers first end_mark explain) old new
 EndsOn queries texts (Check query input heap explain) old new result = ChecksOn queries texts (query_word query) (option_map (λ s. s.now) input) old new result
 EndsOn queries texts (Graph query form heap explain) old new result = GraphsOn queries form (query_word query) old new result
 EndsOn queries texts (Format query explain) old new result = FormatsOn queries (query_word query) old new result
-EndsOn queries texts (Sql query wrapped explain) old new result = ScriptsOn queries (arithmetic_asked wrapped) (query_word query) old new result
+EndsOn queries texts (Sql query form output explain) old new result = ScriptsOn queries (script_asked form (option_map (λ s. s.now) output)) (query_word query) old new result
 EndsOn queries texts (Replay query schedule workers views explain) old new result = ReplaysOn queries texts workers (kind_asked views) (query_word query) schedule.now old new result
 EndsOn queries texts (Explain code) old new result = Explains code.now old new result
 
@@ -111,6 +111,6 @@ AsksRun (Follow query input workers first end_mark explain) q i m = ⊥
 AsksRun (Check query input heap explain) q i m = ⊥
 AsksRun (Graph query form heap explain) q i m = ⊥
 AsksRun (Format query explain) q i m = ⊥
-AsksRun (Sql query wrapped explain) q i m = ⊥
+AsksRun (Sql query form output explain) q i m = ⊥
 AsksRun (Replay query schedule workers views explain) q i m = ⊥
 AsksRun (Explain code) q i m = ⊥

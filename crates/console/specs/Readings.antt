@@ -11,7 +11,7 @@ use Rattle.console.specs.Checks.{CheckEnds}
 use Rattle.console.specs.Followed.{FollowEnds, IsReadOf}
 use Rattle.console.specs.Formats.{FormatEnds}
 use Rattle.console.specs.Scripts.{ScriptEnds}
-use Rattle.sql.specs.declared.scalar.Arithmetic.{Arithmetic}
+use Rattle.sql.specs.Asked.{Asked}
 use Rattle.console.specs.Graphs.{GraphEnds}
 use Rattle.console.specs.Heeded.{Heeds}
 use Rattle.console.specs.InputChecks.{CheckInputEnds}
@@ -38,7 +38,7 @@ ChecksBothOver query input old new result = IfSome query (λ q. IfSome input (λ
 abbrev pub FormatsOver : (query : Option (List ℕ)) → Option (List ℕ) → Option (List ℕ) → Result (Unit {0}) Fault → Type 0
 FormatsOver query old new result = IfSome query (λ q. FormatEnds (read_part q) old new result)
 
-abbrev pub ScriptsOver : Arithmetic → (query : Option (List ℕ)) → Option (List ℕ) → Option (List ℕ) → Result (Unit {0}) Fault → Type 0
+abbrev pub ScriptsOver : Asked → (query : Option (List ℕ)) → Option (List ℕ) → Option (List ℕ) → Result (Unit {0}) Fault → Type 0
 ScriptsOver a query old new result = IfSome query (λ q. ScriptEnds a (read_part q) old new result)
 
 abbrev pub GraphsOver : GraphForm → (query : Option (List ℕ)) → Option (List ℕ) → Option (List ℕ) → Result (Unit {0}) Fault → Type 0
@@ -105,7 +105,7 @@ ChecksBothOnHanded left q₀ q₁ i₀ i₁ old new result = EndsOnBothHanded le
 abbrev pub FormatsOnHanded : {Q : Type 0} → (left : Q → Option (List ℕ)) → (q₀ q₁ : Watched Q) → Option (List ℕ) → Option (List ℕ) → Result (Unit {0}) Fault → Type 0
 FormatsOnHanded left q₀ q₁ old new result = EndsOnHanded left q₀ q₁ (λ q. FormatEnds q old new result) result
 
-abbrev pub ScriptsOnHanded : Arithmetic → {Q : Type 0} → (left : Q → Option (List ℕ)) → (q₀ q₁ : Watched Q) → Option (List ℕ) → Option (List ℕ) → Result (Unit {0}) Fault → Type 0
+abbrev pub ScriptsOnHanded : Asked → {Q : Type 0} → (left : Q → Option (List ℕ)) → (q₀ q₁ : Watched Q) → Option (List ℕ) → Option (List ℕ) → Result (Unit {0}) Fault → Type 0
 ScriptsOnHanded a left q₀ q₁ old new result = EndsOnHanded left q₀ q₁ (λ q. ScriptEnds a q old new result) result
 
 abbrev pub GraphsOnHanded : GraphForm → {Q : Type 0} → (left : Q → Option (List ℕ)) → (q₀ q₁ : Watched Q) → Option (List ℕ) → Option (List ℕ) → Result (Unit {0}) Fault → Type 0

@@ -14,12 +14,12 @@ use Rattle.collector.specs.declared.transcript.Transcript.{Transcript}
 use Rattle.follow.specs.Follows.{Reading}
 use Rattle.diagnostics.specs.declared.fault.Fault.{Fault}
 use Rattle.diagnostics.specs.declared.fault.Fault.TheVariants.{NoWorker}
-use Rattle.console.specs.Asked.{Known, arithmetic_asked, query_word}
+use Rattle.console.specs.Asked.{Known, script_asked, query_word}
 use Rattle.console.specs.Checks.{CheckEnds}
 use Rattle.console.specs.Followed.{FollowEnds}
 use Rattle.console.specs.Formats.{FormatEnds}
 use Rattle.console.specs.Scripts.{ScriptEnds}
-use Rattle.sql.specs.declared.scalar.Arithmetic.{Arithmetic}
+use Rattle.sql.specs.Asked.{Asked}
 use Rattle.console.specs.Graphs.{GraphEnds}
 use Rattle.console.specs.Heeded.{Heeds}
 use Rattle.console.specs.InputChecks.{CheckInputEnds}
@@ -94,7 +94,7 @@ FormatsOnTexts queries texts query old new result = EndsOnText queries texts que
 abbrev pub GraphsOnTexts : Known → Transcripts → GraphForm → (query : List ℕ) → Option (List ℕ) → Option (List ℕ) → Result (Unit {0}) Fault → Type 0
 GraphsOnTexts queries texts form query old new result = EndsOnText queries texts query (λ q. GraphEnds form q old new result) result
 
-abbrev pub ScriptsOnTexts : Known → Transcripts → Arithmetic → (query : List ℕ) → Option (List ℕ) → Option (List ℕ) → Result (Unit {0}) Fault → Type 0
+abbrev pub ScriptsOnTexts : Known → Transcripts → Asked → (query : List ℕ) → Option (List ℕ) → Option (List ℕ) → Result (Unit {0}) Fault → Type 0
 ScriptsOnTexts queries texts a query old new result = EndsOnText queries texts query (λ q. ScriptEnds a q old new result) result
 
 abbrev pub ReplaysOnTexts : Known → Transcripts → Workers → ViewKind → (query schedule : List ℕ) → Option (List ℕ) → Option (List ℕ) → Result (Unit {0}) Fault → Type 0
@@ -113,6 +113,6 @@ EndsOnRead queries texts (Follow query input workers first end_mark explain) old
 EndsOnRead queries texts (Check query input heap explain) old new result = ChecksOnTexts queries texts (query_word query) (option_map (λ s. s.now) input) old new result
 EndsOnRead queries texts (Graph query form heap explain) old new result = GraphsOnTexts queries texts form (query_word query) old new result
 EndsOnRead queries texts (Format query explain) old new result = FormatsOnTexts queries texts (query_word query) old new result
-EndsOnRead queries texts (Sql query wrapped explain) old new result = ScriptsOnTexts queries texts (arithmetic_asked wrapped) (query_word query) old new result
+EndsOnRead queries texts (Sql query form output explain) old new result = ScriptsOnTexts queries texts (script_asked form (option_map (λ s. s.now) output)) (query_word query) old new result
 EndsOnRead queries texts (Replay query schedule workers views explain) old new result = ReplaysOnTexts queries texts workers (kind_asked views) (query_word query) schedule.now old new result
 EndsOnRead queries texts (Explain code) old new result = Unit {0}

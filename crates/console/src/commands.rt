@@ -3,6 +3,7 @@
 ghost use Rattle.std.specs.Prelude.{◌≡◌, [], None, option_map};
 ghost use Rattle.collector.specs.Watching.{inner_of};
 ghost use Rattle.console.specs.Asked.{known_inputs};
+ghost use Rattle.sql.specs.Asked.{asked_of};
 ghost use Rattle.console.specs.Commands.{ChecksOn, FollowsOn, FormatsOn, GraphsOn, ReplaysOn, RunsOn, ScriptsOn};
 ghost use Rattle.console.specs.Readings.{ChecksBothOnHanded, ChecksBothOver, ChecksOnHanded, ChecksOver, GraphsOnHanded, GraphsOver};
 ghost use Rattle.console.specs.Transcribed.{ChecksOnTexts, FollowsOnTexts, FormatsOnTexts, GraphsOnTexts, IsClosed, ReplaysOnTexts, RunsOnTexts, ScriptsOnTexts, StartsSeveral};
@@ -21,7 +22,7 @@ use crate::transcripts::Transcripts;
 use bumpalo::Bump;
 use collector::{Opened, Sources, Watched, open_marked, open_named};
 use command_line::{FirstEpoch, GraphForm, HeapSize, Workers};
-use compile::Arithmetic;
+use compile::Request;
 use diagnostics::{Fault, Texts};
 use linked_list_allocator::LocalHeap;
 use schedule::ViewKind;
@@ -390,20 +391,20 @@ pub fn format_named<'a, Q: Sources<'a>, W: Write>(
 #[tactic(auto, using(crate::proofs::OpenedTexts::one_closed))]
 pub fn script_named<'a, Q: Sources<'a>, W: Write>(
     alloc: Global,
-    arithmetic: Arithmetic,
+    request: Request<'_>,
     query: Place<'a, '_, Q>,
     out: &mut Watched<W>,
     kept: &mut Kept<'a>,
 ) -> Result<(), Fault>
-    ensures known { ScriptsOn (Q.content query.entry.queries.now) arithmetic query.entry.name.now (W.contents (inner_of out.old)) (W.contents (inner_of out.new)) result }
-    ensures read { ScriptsOnTexts (Q.content query.entry.queries.now) kept.new.transcripts arithmetic query.entry.name.now (W.contents (inner_of out.old)) (W.contents (inner_of out.new)) result }
+    ensures known { ScriptsOn (Q.content query.entry.queries.now) (asked_of request.entry) query.entry.name.now (W.contents (inner_of out.old)) (W.contents (inner_of out.new)) result }
+    ensures read { ScriptsOnTexts (Q.content query.entry.queries.now) kept.new.transcripts (asked_of request.entry) query.entry.name.now (W.contents (inner_of out.old)) (W.contents (inner_of out.new)) result }
 {
     let mut query = open_named(query.queries, query.name);
     let arena = Bump::new(alloc);
     let done = script_query(
         alloc,
         &arena,
-        arithmetic,
+        request,
         &mut query.text,
         &mut kept.texts,
         out,

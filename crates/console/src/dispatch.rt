@@ -1,9 +1,10 @@
 //! The dispatcher: from the words of a command line to what is written, and the status.
 
-ghost use Rattle.std.specs.Prelude.{◌≡◌, map, IfNone, IfSome};
+ghost use Rattle.std.specs.Prelude.{◌≡◌, map, option_map, IfNone, IfSome};
 ghost use Rattle.collector.specs.Watching.{inner_of};
 ghost use Rattle.command_line.specs.Faults.{line_status_of};
-ghost use Rattle.console.specs.Asked.{arithmetic_asked, asks_inline, on_line, queries_of, query_word};
+ghost use Rattle.console.specs.Asked.{arithmetic_asked, asks_inline, form_asked, on_line, queries_of, query_word, script_asked};
+ghost use Rattle.sql.specs.Asked.{asked_of};
 ghost use Rattle.console.specs.Commands.{Answers, EndsOn, Obeys, status_after};
 ghost use Rattle.console.specs.Transcribed.{EndsOnRead};
 ghost use Rattle.console.specs.Views.{kind_asked};
@@ -17,8 +18,8 @@ use crate::streams::Streams;
 use crate::transcripts::Transcripts;
 use bumpalo::Bump;
 use collector::{Sources, Watched};
-use command_line::{LineFault, Options, Query, options};
-use compile::{Arithmetic, warnings_of};
+use command_line::{LineFault, Options, Query, ScriptForm, options};
+use compile::{Arithmetic, Form, Request, warnings_of};
 use diagnostics::{
     Fault, Plain, TextNames, Texts, Word, explain_fault, row_of_word, write_explanation,
     write_path_hint, write_told, write_warnings,
@@ -50,6 +51,31 @@ fn arithmetic_of(wrapped: bool) -> Arithmetic
         Arithmetic::Wrapped
     } else {
         Arithmetic::Plain
+    }
+}
+
+/// The form of a script.
+fn form_of(form: ScriptForm) -> Form
+    ensures { result ≡ form_asked form }
+{
+    match form {
+        ScriptForm::Postgres { wrapped } => Form::Postgres(arithmetic_of(wrapped)),
+        ScriptForm::Sqlite => Form::Sqlite,
+        ScriptForm::Spark { wrapped } => Form::Spark(arithmetic_of(wrapped)),
+    }
+}
+
+/// The script that is asked for.
+fn request_of<'a>(form: ScriptForm, output: Option<&'a str>) -> Request<'a>
+    ensures { asked_of result ≡ script_asked form (option_map (λ s. s.now) output.entry) }
+{
+    let output = match output {
+        None => None,
+        Some(name) => Some(name.as_bytes()),
+    };
+    Request {
+        form: form_of(form),
+        output,
     }
 }
 
@@ -253,9 +279,14 @@ fn answer_alone<'a, Q: Sources<'a>, S: Sources<'a>, W: Write>(
             let query = place_of(queries, query);
             Some(format_named(alloc, query, out, kept))
         }
-        Options::Sql { query, wrapped, .. } => {
+        Options::Sql {
+            query,
+            form,
+            output,
+            ..
+        } => {
             let query = place_of(queries, query);
-            Some(script_named(alloc, arithmetic_of(wrapped), query, out, kept))
+            Some(script_named(alloc, request_of(form, output), query, out, kept))
         }
         Options::Explain { code } => match row_of_word(code) {
             Some(row) => Some(write_explanation(alloc, row, out)),

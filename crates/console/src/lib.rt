@@ -43,7 +43,7 @@ mod writing;
 pub use checking::check_query;
 pub use collector::Sources;
 pub use command_line::{FirstEpoch, GraphForm, HeapSize, LineFault, Options, Query, Workers};
-pub use compile::{Arithmetic, CompileFault, compile, law_one_graph};
+pub use compile::{Arithmetic, CompileFault, Form, Request, compile, law_one_graph};
 pub use diagnostics::{Fault, Texts};
 pub use disk::{Disk, DiskText};
 pub use dispatch::{answer, refuse};

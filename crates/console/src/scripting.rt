@@ -5,12 +5,13 @@ ghost use Rattle.collector.specs.Watching.{has_failed, inner_of};
 ghost use Rattle.console.specs.Scripts.{ScriptEnds};
 ghost use Rattle.console.specs.Readings.{KeepsQuery, ScriptsOnHanded, ScriptsOver};
 ghost use Rattle.console.specs.Runs.{IsAfterReading};
+ghost use Rattle.sql.specs.Asked.{asked_of};
 ghost use Rattle.diagnostics.specs.declared.fault.Fault.TheVariants as fault;
 
 use crate::reading::read_query;
 use crate::writing::write_text;
 use collector::Watched;
-use compile::{Arithmetic, script_text};
+use compile::{Request, script_text};
 use diagnostics::{Fault, Texts};
 use std::alloc::{Allocator, Global};
 use std::io::{Read, Write};
@@ -19,34 +20,34 @@ use std::io::{Read, Write};
 fn write_script<A: Allocator + Copy, W: Write>(
     alloc: Global,
     arena: A,
-    arithmetic: Arithmetic,
+    request: Request<'_>,
     query: &[u8],
     writer: &mut Watched<W>,
 ) -> Result<(), Fault>
-    ensures ends { ScriptEnds arithmetic query.now (W.contents (inner_of writer.old)) (W.contents (inner_of writer.new)) result }
+    ensures ends { ScriptEnds (asked_of request.entry) query.now (W.contents (inner_of writer.old)) (W.contents (inner_of writer.new)) result }
     ensures writer { IsErrOf result fault.Write → has_failed writer.new ≡ true }
     ensures read { IfErr result IsAfterReading }
 {
-    let text = match script_text(alloc, arena, query, arithmetic) {
+    let text = match script_text(alloc, arena, query, request) {
         Ok(text) => text,
         Err(fault) => return Err(fault),
     };
     write_text(writer, text.as_slice())
 }
 
-/// Reads a query, and writes its script of SQL, for PostgreSQL. It is written only once all of it is made. A query that takes more than 4096 tables
-/// is refused. The text that was read is left in `texts`.
+/// Reads a query, and writes its script of SQL, as it is asked for. It is written only once all of it is made. A query that takes more than 4096
+/// tables is refused, and one without the output that is asked for. The text that was read is left in `texts`.
 #[tactic(auto, using(crate::proofs::HandedOver::script_unread, crate::proofs::HandedOver::one_read))]
 pub fn script_query<A: Allocator + Copy, Q: Read, W: Write>(
     alloc: Global,
     arena: A,
-    arithmetic: Arithmetic,
+    request: Request<'_>,
     query: &mut Watched<Q>,
     texts: &mut Texts,
     writer: &mut Watched<W>,
 ) -> Result<(), Fault>
-    ensures ends { ScriptsOver arithmetic (Q.remaining (inner_of query.old)) (W.contents (inner_of writer.old)) (W.contents (inner_of writer.new)) result }
-    ensures handed { ScriptsOnHanded arithmetic Q.remaining query.old query.new (W.contents (inner_of writer.old)) (W.contents (inner_of writer.new)) result }
+    ensures ends { ScriptsOver (asked_of request.entry) (Q.remaining (inner_of query.old)) (W.contents (inner_of writer.old)) (W.contents (inner_of writer.new)) result }
+    ensures handed { ScriptsOnHanded (asked_of request.entry) Q.remaining query.old query.new (W.contents (inner_of writer.old)) (W.contents (inner_of writer.new)) result }
     ensures query { IsErrOf result fault.ReadQuery → has_failed query.new ≡ true }
     ensures writer { IsErrOf result fault.Write → has_failed writer.new ≡ true }
     ensures kept { KeepsQuery (Q.remaining (inner_of query.old)) result texts.new.query.items }
@@ -55,5 +56,5 @@ pub fn script_query<A: Allocator + Copy, Q: Read, W: Write>(
         Ok(text) => texts.query = text,
         Err(fault) => return Err(fault),
     }
-    write_script(alloc, arena, arithmetic, &texts.query, writer)
+    write_script(alloc, arena, request, &texts.query, writer)
 }

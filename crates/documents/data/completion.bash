@@ -22,7 +22,7 @@ _loom() {
         check) words="--heap --explain --inline --help" ;;
         graph) words="--dot --heap --explain --inline --help" ;;
         format) words="--explain --inline --help" ;;
-        sql) words="--wrapped --explain --inline --help" ;;
+        sql) words="--wrapped --dialect --output --explain --inline --help" ;;
         esac
     else
         compopt -o filenames 2>/dev/null

@@ -6,4 +6,4 @@
         check) words="--heap --explain --inline --help" ;;
         graph) words="--dot --heap --explain --inline --help" ;;
         format) words="--explain --inline --help" ;;
-        sql) words="--wrapped --explain --inline --help" ;;
+        sql) words="--wrapped --dialect --output --explain --inline --help" ;;

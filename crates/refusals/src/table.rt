@@ -26,7 +26,7 @@ pub struct Explanation {
 pub const NUMBERS: &str = "1 to 6, 11 to 21 and 23 to 47";
 
 /// The refusals of a query, each code once, in ascending order.
-pub static OF_QUERIES: [Explanation; 19] = [
+pub static OF_QUERIES: [Explanation; 20] = [
     Explanation {
         code: 1,
         summary: "an unexpected character, a `#` without a number, or a `!` without `=`",
@@ -204,6 +204,14 @@ pub static OF_QUERIES: [Explanation; 19] = [
         place: "the name of the `let` or the output where they become too many",
         text: "`loom sql` writes a table for each relation form, and a loop's tables again for each turn, at least one.\n\
             Fewer turns help, and so does a `let` for a form that is written several times.",
+        wrong: "",
+        right: "",
+    },
+    Explanation {
+        code: 25,
+        summary: "no output has the name",
+        place: "the name of the first output",
+        text: "`loom sql --output NAME` writes the output of that name alone; one that is given no name is called out.",
         wrong: "",
         right: "",
     },

@@ -8,3 +8,4 @@ pub mod Outputs
 pub mod Lets
 pub mod WidthsOfTables
 pub mod PartsOfScripts
+pub mod WantedTables

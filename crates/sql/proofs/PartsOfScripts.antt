@@ -1,5 +1,5 @@
 -- The parts of a program make its script.
-use Rattle.std.proofs.Common.{◌≡◌, ℕ, List, [], ◌++◌, codes, map, ap, ap₂, sym, ◌∙◌}
+use Rattle.std.proofs.Common.{◌≡◌, ℕ, List, [], ◌++◌, map, ap, ap₂, sym, ◌∙◌, append_assoc}
 use Rattle.expr_tree.specs.Plain.{plain_input, plain_program}
 use Rattle.expr_tree.specs.PlainLists.{plain_lets, plain_outputs}
 use Rattle.expr_tree.specs.Views.{program_tree}
@@ -8,9 +8,10 @@ use Rattle.sql_meaning.specs.Script.{Script, Table, Query}
 use Rattle.sql_meaning.specs.Translation.{Tables, Scope, after_lets, input_tables, script_of, written_outputs}
 use Rattle.sql_meaning.specs.WellFormed.{Widths}
 use Rattle.sql.specs.Shown.{Known, made_of, names_of, shown_script, shown_table}
-use Rattle.sql.specs.Text.{head_text, results_text, script_text, tables_text, widths_of}
+use Rattle.sql.specs.Dialects.{dialect_of, end_text}
+use Rattle.sql.specs.Asked.{Asked, asked_tables}
+use Rattle.sql.specs.Text.{body_text, head_text, results_text, script_text, tables_text}
 use Rattle.sql.specs.Widths.{AreWidths, width_in}
-use Rattle.sql.specs.declared.scalar.Arithmetic.{Arithmetic}
 use Rattle.sql.specs.declared.table.Script as declared_script
 use Rattle.sql.proofs.Texts.{four_texts}
 use Rattle.sql.specs.declared.table.Query as declared_query
@@ -30,12 +31,18 @@ whole_script p k l m n rs i e t r =
     ap₂ script (sym t) r ∙ ap outputs (sym e) ∙ ap (λ names. outputs (lets names)) i
 
 -- the texts of the parts make the text of the script
-pub whole_text : {A : Type 0} (p : declared_program.Program A) (a : Arithmetic) (s : declared_script.Script A) (ws t1 t2 t3 t4 : List ℕ) → shown_script s ≡ script_of (plain_program (program_tree p)) →
-    AreWidths (map plain_input p.inputs.items) ws (made_of s.made.items) → t1 ≡ head_text a (map plain_input p.inputs.items) → t2 ≡ t1 ++ tables_text a (map plain_input p.inputs.items) (made_of s.made.items) →
-    t3 ≡ t2 ++ results_text (map plain_input p.inputs.items) (width_in (map plain_input p.inputs.items) ws) (map shown_table s.results.items) (plain_outputs p.outputs.items) → t4 ≡ t3 ++ codes "COMMIT;\n" →
-    t4 ≡ script_text a (plain_program (program_tree p))
-whole_text p a s ws t1 t2 t3 t4 e w h1 h2 h3 h4 =
+pub whole_text : {A : Type 0} (p : declared_program.Program A) (a : Asked) (s : declared_script.Script A) (ws wanted t1 t2 t3 t4 : List ℕ) → shown_script s ≡ script_of (plain_program (program_tree p)) →
+    AreWidths (map plain_input p.inputs.items) ws (made_of s.made.items) → wanted ≡ asked_tables a.output (map shown_table s.results.items) (plain_outputs p.outputs.items) →
+    t1 ≡ head_text a.form (map plain_input p.inputs.items) →
+    t2 ≡ t1 ++ tables_text a.form (map plain_input p.inputs.items) (width_in (map plain_input p.inputs.items) ws) wanted (made_of s.made.items) →
+    t3 ≡ t2 ++ results_text (dialect_of a.form) (map plain_input p.inputs.items) (width_in (map plain_input p.inputs.items) ws) a.output (map shown_table s.results.items) (plain_outputs p.outputs.items) →
+    t4 ≡ t3 ++ end_text (dialect_of a.form) → t4 ≡ script_text a (plain_program (program_tree p))
+whole_text p a s ws wanted t1 t2 t3 t4 e w v h1 h2 h3 h4 =
     let inputs = map plain_input p.inputs.items in
     let outputs = plain_outputs p.outputs.items in
-    let text : Script → Widths → List ℕ = λ z v. head_text a inputs ++ (tables_text a inputs z.tables ++ (results_text inputs v z.results outputs ++ codes "COMMIT;\n")) in
-    four_texts [] t1 t2 t3 t4 (head_text a inputs) _ _ _ h1 h2 h3 h4 ∙ ap (text (shown_script s)) w.1 ∙ ap (λ (z : Script). text z (widths_of inputs z.tables)) e
+    let end : List ℕ = end_text (dialect_of a.form) in
+    let body : Script → List ℕ → Widths → List ℕ = λ z ns f. tables_text a.form inputs f ns z.tables ++ results_text (dialect_of a.form) inputs f a.output z.results outputs in
+    four_texts [] t1 t2 t3 t4 (head_text a.form inputs) _ _ _ h1 h2 h3 h4
+    ∙ ap (λ x. head_text a.form inputs ++ x) (sym (append_assoc (tables_text a.form inputs (width_in inputs ws) wanted (made_of s.made.items)) (results_text (dialect_of a.form) inputs (width_in inputs ws) a.output (map shown_table s.results.items) outputs) end))
+    ∙ ap₂ (λ ns f. head_text a.form inputs ++ (body (shown_script s) ns f ++ end)) v w.1
+    ∙ ap (λ (z : Script). head_text a.form inputs ++ (body_text a (plain_program (program_tree p)) z ++ end)) e

@@ -12,7 +12,7 @@ use Rattle.sql_meaning.specs.Translation.{Tables, Finding, finding_first, findin
 use Rattle.sql.specs.Shown.{IsWritten, made_of, shown_operation, shown_table}
 use Rattle.sql.specs.Signs.{connective_text}
 use Rattle.sql.specs.Text.{bracketed, search_text}
-use Rattle.sql.specs.declared.scalar.Arithmetic.{Arithmetic}
+use Rattle.sql.specs.declared.form.Form.{Form}
 use Rattle.sql.specs.declared.table.Query as declared_query
 use Rattle.sql.specs.declared.table.Table as declared_table
 
@@ -24,7 +24,7 @@ set_written operation.Concat p q names earlier = refl
 set_written operation.Except p q names earlier = refl
 set_written operation.Intersect p q names earlier = refl
 
-pub logical_text : (a : Arithmetic) (o : Connective) (p q : Cond) →
+pub logical_text : (a : Form) (o : Connective) (p q : Cond) →
     search_text a (search (plain_connective o p q)) ≡ bracketed (connective_text o) (search_text a (search p)) (search_text a (search q))
 logical_text a connective.And p q = refl
 logical_text a connective.Or p q = refl

@@ -1,5 +1,5 @@
 -- One table's columns more.
-use Rattle.std.proofs.Common.{◌≡◌, ℕ, zero, suc, ◌+◌, ◌<◌, ◌≤◌, nat_eq, cond, List, [], ◌∷◌, ◌++◌, take, get_or, length, slice_index_or, refl, sym, subst, ap, ap₂, ◌∙◌, arith, append-nil, append_assoc, length-take, ne_eqb}
+use Rattle.std.proofs.Common.{◌≡◌, ℕ, zero, suc, ◌+◌, ◌<◌, ◌≤◌, nat_eq, cond, List, [], ◌∷◌, ◌++◌, take, get_or, length, slice_index_or, refl, sym, subst, ap, ap₂, ◌∙◌, arith, ne_eqb}
 use Rattle.std.proofs.Math.Seq.{take-length}
 use Rattle.std.proofs.lemmas.Bool.Decides.{nat_tests}
 use mathlib.Core.Path.{fun_ext}
@@ -7,11 +7,10 @@ use Rattle.semantics.specs.Query.{Input}
 use Rattle.sql_meaning.specs.Script.{Table, Query}
 use Rattle.sql_meaning.specs.WellFormed.{Widths, query_width}
 use Rattle.sql.specs.Shown.{made_of, shown_query}
-use Rattle.sql.specs.Text.{create_text, tables_text, widths_of}
+use Rattle.sql.specs.Text.{widths_of}
 use Rattle.sql.specs.Widths.{AreWidths, width_in}
-use Rattle.sql.specs.declared.scalar.Arithmetic.{Arithmetic}
 use Rattle.sql.specs.declared.table.Query as declared_query
-use Rattle.sql.proofs.Made.{made_length, made_more}
+use Rattle.sql.proofs.Made.{made_more}
 
 both_more : (m n : ℕ) → nat_eq m n ≡ nat_eq (suc m) (suc n)
 both_more m n = grind (arith, nat_tests)
@@ -45,43 +44,25 @@ one_width inputs ws new w q qs a e n = (ap length n ∙ longer ws ∙ ap suc a.0
         at_end ws w m ∙ ap (λ k. cond (nat_eq m k) w (slice_index_or ws m 0)) a.0
         ∙ ap₂ (λ x y. cond (nat_eq m (length qs)) x y) width (ap (λ (f : Widths). f (Table.made m)) a.1)
 
-module _ {A : Type 0} (arithmetic : Arithmetic) (inputs : List Input) (qs : List (declared_query.Query A)) (t0 : List ℕ) where
-  -- the first i tables are written, and their columns counted
-  abbrev pub AreDone : ℕ → List ℕ → List ℕ → Type 0
-  AreDone i text ws = (text ≡ t0 ++ tables_text arithmetic inputs (made_of (take i qs))) × AreWidths inputs ws (made_of (take i qs))
+module _ {A : Type 0} (inputs : List Input) (qs : List (declared_query.Query A)) where
+  -- the columns of the first i tables are counted
+  abbrev pub AreCounted : ℕ → List ℕ → Type 0
+  AreCounted i ws = AreWidths inputs ws (made_of (take i qs))
 
-  pub done_at_first : (ws : List ℕ) → ws ≡ [] → AreDone 0 t0 ws
-  done_at_first ws e = (sym (append-nil t0), no_widths inputs ws e)
+  pub none_counted : (ws : List ℕ) → ws ≡ [] → AreCounted 0 ws
+  none_counted ws e = no_widths inputs ws e
 
-  pub one_done : (i : ℕ) (t1 t2 ws new : List ℕ) (q : declared_query.Query A) (w : ℕ) → i < length qs → q ≡ get_or qs i q → AreDone i t1 ws → w ≡ query_width (shown_query q) (width_in inputs ws) →
-      t2 ≡ t1 ++ create_text arithmetic inputs i w (shown_query q) → new ≡ ws ++ (w ∷ []) → AreDone (i + 1) t2 new
-  one_done i t1 t2 ws new q w h e d width t n = (text, widths)
-    where
-      done : List Query
-      done = made_of (take i qs)
+  pub one_counted : (i : ℕ) (ws new : List ℕ) (q : declared_query.Query A) (w : ℕ) → i < length qs → q ≡ get_or qs i q → AreCounted i ws → w ≡ query_width (shown_query q) (width_in inputs ws) →
+      new ≡ ws ++ (w ∷ []) → AreCounted (i + 1) new
+  one_counted i ws new q w h e d width n =
+      let j : i + 1 ≡ suc i = omega arith in
+      let more : made_of (take (i + 1) qs) ≡ shown_query q ∷ made_of (take i qs) = ap (λ k. made_of (take k qs)) j ∙ made_more qs i q h e in
+      let P : List Query → Type 0 = λ z. AreWidths inputs new z in
+      subst P (sym more) (one_width inputs ws new w (shown_query q) (made_of (take i qs)) d width n)
 
-      more : made_of (take (i + 1) qs) ≡ shown_query q ∷ done
-      more = (let j : i + 1 ≡ suc i = omega arith in ap (λ k. made_of (take k qs)) j ∙ made_more qs i q h e)
-
-      number : i ≡ length done
-      number = sym (made_length (take i qs) ∙ taken)
-        where
-          taken : length (take i qs) ≡ i
-          taken = grind (arith, length-take)
-
-      widths : AreWidths inputs new (made_of (take (i + 1) qs))
-      widths = (let P : List Query → Type 0 = λ z. AreWidths inputs new z in subst P (sym more) (one_width inputs ws new w (shown_query q) done d.1 width n))
-
-      text : t2 ≡ t0 ++ tables_text arithmetic inputs (made_of (take (i + 1) qs))
-      text =
-          t ∙ ap₂ (λ k v. t1 ++ create_text arithmetic inputs k v (shown_query q)) number (width ∙ ap (query_width (shown_query q)) d.1.1)
-          ∙ ap (λ x. x ++ create_text arithmetic inputs (length done) (query_width (shown_query q) (widths_of inputs done)) (shown_query q)) d.0
-          ∙ append_assoc t0 (tables_text arithmetic inputs done) (create_text arithmetic inputs (length done) (query_width (shown_query q) (widths_of inputs done)) (shown_query q))
-          ∙ ap (λ z. t0 ++ tables_text arithmetic inputs z) (sym more)
-
-  pub all_done : (i : ℕ) (text ws : List ℕ) → length qs ≤ i → i ≤ length qs → AreDone i text ws → (text ≡ t0 ++ tables_text arithmetic inputs (made_of qs)) × AreWidths inputs ws (made_of qs)
-  all_done i text ws h k d =
+  pub all_counted : (i : ℕ) (ws : List ℕ) → length qs ≤ i → i ≤ length qs → AreCounted i ws → AreWidths inputs ws (made_of qs)
+  all_counted i ws h k d =
       let j : i ≡ length qs = omega arith in
       let e : take i qs ≡ qs = ap (λ n. take n qs) j ∙ take-length qs in
-      let P : List (declared_query.Query A) → Type 0 = λ z. (text ≡ t0 ++ tables_text arithmetic inputs (made_of z)) × AreWidths inputs ws (made_of z) in
+      let P : List (declared_query.Query A) → Type 0 = λ z. AreWidths inputs ws (made_of z) in
       subst P e d

@@ -1,4 +1,6 @@
 pub mod Shown
+pub mod Dialects
+pub mod Asked
 pub mod Text
 pub mod Limits
 pub mod Signs

@@ -1,12 +1,16 @@
--- The text of a script, for PostgreSQL.
-use Rattle.std.specs.Prelude.{ℕ, ℤ, zero, suc, ◌+◌, List, [], ◌∷◌, ◌++◌, map, length, codes, decimal, slice_index_or}
+-- The text of a script.
+use Rattle.std.specs.Prelude.{ℕ, ℤ, Bool, true, false, cond, not, ◌&&◌, zero, suc, ◌+◌, List, [], ◌∷◌, ◌++◌, map, length, codes, decimal, slice_index_or, Option}
 use Rattle.std.specs.Fmt.{signed_decimal}
 use Rattle.semantics.specs.Query.{Comparison, Name, Pair, Input, Output, Program}
-use Rattle.sql_meaning.specs.Script.{Table, Expression, Search, Aggregate, Query}
+use Rattle.sql_meaning.specs.Script.{Table, Expression, Search, Aggregate, Query, Script}
 use Rattle.sql_meaning.specs.Translation.{script_of}
-use Rattle.sql_meaning.specs.WellFormed.{Widths, query_width, widths}
-use Rattle.sql.specs.declared.scalar.Arithmetic.{Arithmetic}
-use Rattle.sql.specs.declared.scalar.Arithmetic.TheVariants.{Plain, Wrapped}
+use Rattle.sql_meaning.specs.Wanted.{is_in, reads}
+use Rattle.sql_meaning.specs.WellFormed.{Widths, widths}
+use Rattle.sql.specs.Asked.{Asked, is_asked, asked_tables}
+use Rattle.sql.specs.Dialects.{dialect_of, arithmetic_of, database_name, quote, begin_text, end_text, create_word, promise_text, wrap_open, wrap_close, sum_open, sum_close, operand_open, operand_close}
+use Rattle.sql.specs.declared.form.Dialect.{Dialect}
+use Rattle.sql.specs.declared.form.Dialect.TheVariants.{Postgres, Sqlite, Spark}
+use Rattle.sql.specs.declared.form.Form.{Form}
 
 -- ---- lists
 
@@ -36,32 +40,12 @@ numbered text (suc n) = numbered text n ++ (comma_text n ++ text n)
 abbrev pub column_text : ℕ → List ℕ
 column_text c = codes "c" ++ decimal c
 
--- before an operand: plain arithmetic is that of BIGINT, and wrapped arithmetic is done in 38 decimal digits
-abbrev pub operand_open : Arithmetic → List ℕ
-operand_open Plain = []
-operand_open Wrapped = codes "CAST("
-
--- after an operand
-abbrev pub operand_close : Arithmetic → List ℕ
-operand_close Plain = []
-operand_close Wrapped = codes " AS NUMERIC(38))"
-
--- before what is wrapped: BIGINT is an error beyond 64 bits, and wrapped arithmetic takes remainders
-abbrev pub wrap_open : Arithmetic → List ℕ
-wrap_open Plain = []
-wrap_open Wrapped = codes "CAST(MOD(MOD("
-
--- after what is wrapped
-abbrev pub wrap_close : Arithmetic → List ℕ
-wrap_close Plain = []
-wrap_close Wrapped = codes " + 9223372036854775808, 18446744073709551616) + 18446744073709551616, 18446744073709551616) - 9223372036854775808 AS BIGINT)"
-
 -- an operand
-abbrev pub operand_text : Arithmetic → List ℕ → List ℕ
+abbrev pub operand_text : Form → List ℕ → List ℕ
 operand_text a t = operand_open a ++ (t ++ operand_close a)
 
 -- two operands with their operator
-abbrev pub binary_text : Arithmetic → (operator l r : List ℕ) → List ℕ
+abbrev pub binary_text : Form → (operator l r : List ℕ) → List ℕ
 binary_text a operator l r = codes "(" ++ (operand_text a l ++ (operator ++ (operand_text a r ++ codes ")")))
 
 -- a number
@@ -69,18 +53,18 @@ abbrev pub number_text : ℤ → List ℕ
 number_text z = codes "CAST(" ++ (signed_decimal z ++ codes " AS BIGINT)")
 
 -- the negation of an operand
-abbrev pub negated_text : Arithmetic → List ℕ → List ℕ
+abbrev pub negated_text : Form → List ℕ → List ℕ
 negated_text a t = codes "(- " ++ (operand_text a t ++ codes ")")
 
 -- an expression
-abbrev pub expression_text : Arithmetic → Expression → List ℕ
+abbrev pub expression_text : Form → Expression → List ℕ
 expression_text a (Expression.column c) = column_text c
 expression_text a (Expression.number z) = number_text z
 expression_text a (Expression.sum d e) = binary_text a (codes " + ") (expression_text a d) (expression_text a e)
 expression_text a (Expression.difference d e) = binary_text a (codes " - ") (expression_text a d) (expression_text a e)
 expression_text a (Expression.product d e) = binary_text a (codes " * ") (expression_text a d) (expression_text a e)
 expression_text a (Expression.opposite e) = negated_text a (expression_text a e)
-expression_text a (Expression.wrapped e) = wrap_open a ++ (expression_text a e ++ wrap_close a)
+expression_text a (Expression.wrapped e) = wrap_open (arithmetic_of a) ++ (expression_text a e ++ wrap_close (arithmetic_of a))
 
 -- a comparison
 abbrev pub comparison_text : Comparison → List ℕ
@@ -95,72 +79,106 @@ comparison_text Comparison.at_least = codes " >= "
 abbrev pub bracketed : (between l r : List ℕ) → List ℕ
 bracketed between l r = codes "(" ++ (l ++ (between ++ (r ++ codes ")")))
 
+-- two texts with a third between them
+abbrev pub between_text : (between l r : List ℕ) → List ℕ
+between_text between l r = l ++ (between ++ r)
+
+-- the expression is a column or a number
+abbrev pub is_simple : Expression → Bool
+is_simple (Expression.column c) = true
+is_simple (Expression.number z) = true
+is_simple (Expression.sum d e) = false
+is_simple (Expression.difference d e) = false
+is_simple (Expression.product d e) = false
+is_simple (Expression.opposite e) = false
+is_simple (Expression.wrapped e) = false
+
+-- In SQLite an operator gives a REAL where a number would have more than 64 bits, and so does each operator on that. So a comparison of what was
+-- computed is made only of integers; else it is an error.
+abbrev pub needs_guard : Dialect → (both_simple : Bool) → Bool
+needs_guard Postgres b = false
+needs_guard Sqlite b = not b
+needs_guard Spark b = false
+
+-- the value is an integer
+abbrev pub integer_text : List ℕ → List ℕ
+integer_text t = codes "typeof(" ++ (t ++ codes ") = 'integer'")
+
+-- a comparison of integers alone
+abbrev pub guarded_text : (sign l r : List ℕ) → List ℕ
+guarded_text sign l r =
+    codes "(CASE WHEN " ++ (integer_text l ++ (codes " AND " ++ (integer_text r ++ (codes " THEN " ++ (between_text sign l r
+    ++ codes " ELSE abs(-9223372036854775807 - 1) END)")))))
+
+-- a comparison
+abbrev pub compare_text : (guard : Bool) → (sign l r : List ℕ) → List ℕ
+compare_text guard sign l r = cond guard (guarded_text sign l r) (bracketed sign l r)
+
 -- a search condition
-abbrev pub search_text : Arithmetic → Search → List ℕ
-search_text a (Search.compare o d e) = bracketed (comparison_text o) (expression_text a d) (expression_text a e)
+abbrev pub search_text : Form → Search → List ℕ
+search_text a (Search.compare o d e) =
+    compare_text (needs_guard (dialect_of a) (is_simple d && is_simple e)) (comparison_text o) (expression_text a d) (expression_text a e)
 search_text a (Search.both c d) = bracketed (codes " AND ") (search_text a c) (search_text a d)
 search_text a (Search.either c d) = bracketed (codes " OR ") (search_text a c) (search_text a d)
 search_text a (Search.no c) = codes "(NOT " ++ (search_text a c ++ codes ")")
 
 -- ---- queries
 
--- before a sum's column; PostgreSQL adds exactly, and a plain sum is taken to BIGINT, with an error beyond it
-abbrev pub sum_open : Arithmetic → List ℕ
-sum_open Plain = codes "CAST(SUM("
-sum_open Wrapped = codes "CAST(MOD(MOD(SUM("
-
--- after a sum's column
-abbrev pub sum_close : Arithmetic → List ℕ
-sum_close Plain = codes ") AS BIGINT)"
-sum_close Wrapped = codes ") + 9223372036854775808, 18446744073709551616) + 18446744073709551616, 18446744073709551616) - 9223372036854775808 AS BIGINT)"
+-- a sum; a wrapped one is added exactly, and a plain one is an error beyond BIGINT
+abbrev pub sum_text : Form → ℕ → List ℕ
+sum_text a c = sum_open (arithmetic_of a) ++ (operand_open a ++ (column_text c ++ (operand_close a ++ sum_close (arithmetic_of a))))
 
 -- an aggregate
-abbrev pub aggregate_text : Arithmetic → Aggregate → List ℕ
+abbrev pub aggregate_text : Form → Aggregate → List ℕ
 aggregate_text a Aggregate.wrapped_count = codes "COUNT(*)"
-aggregate_text a (Aggregate.wrapped_sum c) = sum_open a ++ (column_text c ++ sum_close a)
+aggregate_text a (Aggregate.wrapped_sum c) = sum_text a c
 aggregate_text a (Aggregate.least c) = codes "MIN(" ++ (column_text c ++ codes ")")
 aggregate_text a (Aggregate.greatest c) = codes "MAX(" ++ (column_text c ++ codes ")")
 
+-- a name in quotes
+abbrev pub quoted : Dialect → List ℕ → List ℕ
+quoted d name = quote d ++ (name ++ quote d)
+
 -- a table: a given one by its name, and one that the script makes by its number, which no given one has for a name
-abbrev pub table_text : List Input → Table → List ℕ
-table_text inputs (Table.given i) = codes "\"" ++ (slice_index_or (map (λ (a : Input). a.name) inputs) i [] ++ codes "\"")
-table_text inputs (Table.made n) = codes "\"" ++ (decimal n ++ codes "\"")
+abbrev pub table_text : Dialect → List Input → Table → List ℕ
+table_text d inputs (Table.given i) = quoted d (slice_index_or (map (λ (a : Input). a.name) inputs) i [])
+table_text d inputs (Table.made n) = quoted d (decimal n)
 
 -- a pair of columns that a join compares
 abbrev pub pair_text : Pair → List ℕ
 pair_text p = codes "l." ++ (column_text p.left ++ (codes " = r." ++ column_text p.right))
 
 -- all rows of two tables under an operator of sets
-abbrev pub both_text : List Input → (operator : List ℕ) → Table → Table → List ℕ
-both_text inputs operator t u = codes "SELECT * FROM " ++ (table_text inputs t ++ (operator ++ (codes " SELECT * FROM " ++ table_text inputs u)))
+abbrev pub both_text : Dialect → List Input → (operator : List ℕ) → Table → Table → List ℕ
+both_text d inputs operator t u = codes "SELECT * FROM " ++ (table_text d inputs t ++ (operator ++ (codes " SELECT * FROM " ++ table_text d inputs u)))
 
 -- the columns that rows are grouped by
 abbrev pub keys_text : List ℕ → List ℕ
 keys_text ks = joined (codes ", ") (map column_text ks)
 
 -- a join
-abbrev pub join_text : List Input → Table → Table → List Pair → List ℕ
-join_text inputs t u ps =
-    codes "SELECT * FROM " ++ (table_text inputs t ++ (codes " AS l INNER JOIN " ++ (table_text inputs u
+abbrev pub join_text : Dialect → List Input → Table → Table → List Pair → List ℕ
+join_text d inputs t u ps =
+    codes "SELECT * FROM " ++ (table_text d inputs t ++ (codes " AS l INNER JOIN " ++ (table_text d inputs u
     ++ (codes " AS r ON " ++ joined (codes " AND ") (map pair_text ps)))))
 
 -- a group
-abbrev pub group_text : Arithmetic → List Input → List ℕ → List Aggregate → Table → List ℕ
+abbrev pub group_text : Form → List Input → List ℕ → List Aggregate → Table → List ℕ
 group_text a inputs ks as' t =
-    codes "SELECT " ++ (keys_text ks ++ (continued (codes ", ") (map (aggregate_text a) as') ++ (codes " FROM " ++ (table_text inputs t
+    codes "SELECT " ++ (keys_text ks ++ (continued (codes ", ") (map (aggregate_text a) as') ++ (codes " FROM " ++ (table_text (dialect_of a) inputs t
     ++ (codes " GROUP BY " ++ keys_text ks)))))
 
 -- a query
-abbrev pub query_text : Arithmetic → List Input → Query → List ℕ
+abbrev pub query_text : Form → List Input → Query → List ℕ
 query_text a inputs (Query.select es t) =
-    codes "SELECT " ++ (joined (codes ", ") (map (expression_text a) es) ++ (codes " FROM " ++ table_text inputs t))
-query_text a inputs (Query.select_where t c) = codes "SELECT * FROM " ++ (table_text inputs t ++ (codes " WHERE " ++ search_text a c))
-query_text a inputs (Query.select_join t u ps) = join_text inputs t u ps
+    codes "SELECT " ++ (joined (codes ", ") (map (expression_text a) es) ++ (codes " FROM " ++ table_text (dialect_of a) inputs t))
+query_text a inputs (Query.select_where t c) = codes "SELECT * FROM " ++ (table_text (dialect_of a) inputs t ++ (codes " WHERE " ++ search_text a c))
+query_text a inputs (Query.select_join t u ps) = join_text (dialect_of a) inputs t u ps
 query_text a inputs (Query.select_group ks as' t) = group_text a inputs ks as' t
-query_text a inputs (Query.select_distinct t) = codes "SELECT DISTINCT * FROM " ++ table_text inputs t
-query_text a inputs (Query.union_all t u) = both_text inputs (codes " UNION ALL") t u
-query_text a inputs (Query.except t u) = both_text inputs (codes " EXCEPT") t u
-query_text a inputs (Query.intersect t u) = both_text inputs (codes " INTERSECT") t u
+query_text a inputs (Query.select_distinct t) = codes "SELECT DISTINCT * FROM " ++ table_text (dialect_of a) inputs t
+query_text a inputs (Query.union_all t u) = both_text (dialect_of a) inputs (codes " UNION ALL") t u
+query_text a inputs (Query.except t u) = both_text (dialect_of a) inputs (codes " EXCEPT") t u
+query_text a inputs (Query.intersect t u) = both_text (dialect_of a) inputs (codes " INTERSECT") t u
 
 -- ---- scripts
 
@@ -168,59 +186,79 @@ query_text a inputs (Query.intersect t u) = both_text inputs (codes " INTERSECT"
 abbrev pub widths_of : List Input → List Query → Widths
 widths_of inputs tables = widths tables (map (λ (a : Input). a.arity) inputs)
 
--- what makes the table number n, of so many columns
-abbrev pub create_text : Arithmetic → List Input → (n width : ℕ) → Query → List ℕ
-create_text a inputs n width q =
-    codes "CREATE TEMPORARY TABLE \"" ++ (decimal n ++ (codes "\" (" ++ (numbered column_text width
-    ++ (codes ") ON COMMIT DROP AS\n" ++ (query_text a inputs q ++ codes ";\n")))))
+-- a column of a table that is made; SQLite holds a table to integers only if it is told so
+abbrev pub made_column_text : Dialect → ℕ → List ℕ
+made_column_text Postgres c = column_text c
+made_column_text Sqlite c = column_text c ++ (codes " CHECK (typeof(" ++ (column_text c ++ codes ") = 'integer')"))
+made_column_text Spark c = column_text c
 
--- what makes the tables, in order; the latest is first in the list
-abbrev pub tables_text : Arithmetic → List Input → List Query → List ℕ
-tables_text a inputs [] = []
-tables_text a inputs (q ∷ earlier) =
-    tables_text a inputs earlier ++ create_text a inputs (length earlier) (query_width q (widths_of inputs earlier)) q
+-- between the columns of the table number n and its query
+abbrev pub fill_text : Dialect → (n : ℕ) → List ℕ
+fill_text Postgres n = codes ") ON COMMIT DROP AS\n"
+fill_text Sqlite n = codes ");\nINSERT INTO " ++ (quoted Sqlite (decimal n) ++ codes "\n")
+fill_text Spark n = codes ") AS\n"
+
+-- after its query; a view of Spark's is kept as a table
+abbrev pub keep_text : Dialect → (n : ℕ) → List ℕ
+keep_text Postgres n = codes ";\n"
+keep_text Sqlite n = codes ";\n"
+keep_text Spark n = codes ";\nCACHE TABLE " ++ (quoted Spark (decimal n) ++ codes ";\n")
+
+-- what makes the table number n, of so many columns
+abbrev pub create_text : Form → List Input → (n width : ℕ) → Query → List ℕ
+create_text a inputs n width q =
+    create_word (dialect_of a) ++ (quoted (dialect_of a) (decimal n) ++ (codes " (" ++ (numbered (made_column_text (dialect_of a)) width
+    ++ (fill_text (dialect_of a) n ++ (query_text a inputs q ++ keep_text (dialect_of a) n)))))
+
+-- what makes the tables that are wanted, or that one reads that is made, in order; the latest is first in the list
+abbrev pub tables_text : Form → List Input → Widths → (wanted : List ℕ) → List Query → List ℕ
+tables_text a inputs width wanted [] = []
+tables_text a inputs width wanted (q ∷ earlier) =
+    cond (is_in (length earlier) wanted)
+    (tables_text a inputs width (wanted ++ reads q) earlier ++ create_text a inputs (length earlier) (width (Table.made (length earlier))) q)
+    (tables_text a inputs width wanted earlier)
 
 -- a place in ORDER BY: 1, 2, ..
 abbrev pub place_text : ℕ → List ℕ
 place_text n = decimal (n + 1)
 
 -- the rows of an output's table of so many columns, in order
-abbrev pub result_text : List Input → (width : ℕ) → Table → Name → List ℕ
-result_text inputs width t x =
-    codes "-- " ++ (x ++ (codes "\nSELECT * FROM " ++ (table_text inputs t ++ (codes " ORDER BY " ++ (numbered place_text width ++ codes ";\n")))))
+abbrev pub result_text : Dialect → List Input → (width : ℕ) → Table → Name → List ℕ
+result_text d inputs width t x =
+    codes "-- " ++ (x ++ (codes "\nSELECT * FROM " ++ (table_text d inputs t ++ (codes " ORDER BY " ++ (numbered place_text width ++ codes ";\n")))))
 
--- the rows of each output, in order
-abbrev pub results_text : List Input → Widths → List Table → List Output → List ℕ
-results_text inputs width [] os = []
-results_text inputs width (t ∷ ts) [] = []
-results_text inputs width (t ∷ ts) (o ∷ os) = result_text inputs (width t) t o.name ++ results_text inputs width ts os
+-- the rows of each output that is asked for, in order
+abbrev pub results_text : Dialect → List Input → Widths → Option Name → List Table → List Output → List ℕ
+results_text d inputs width y [] os = []
+results_text d inputs width y (t ∷ ts) [] = []
+results_text d inputs width y (t ∷ ts) (o ∷ os) =
+    cond (is_asked y o.name) (result_text d inputs (width t) t o.name) [] ++ results_text d inputs width y ts os
 
 -- a column of a given table
 abbrev pub declared_text : ℕ → List ℕ
 declared_text c = column_text c ++ codes " BIGINT NOT NULL"
 
 -- a given table as it should be, in a comment
-abbrev pub declaration_text : Input → List ℕ
-declaration_text a = codes "--   CREATE TABLE \"" ++ (a.name ++ (codes "\" (" ++ (numbered declared_text a.arity ++ codes ");\n")))
+abbrev pub declaration_text : Dialect → Input → List ℕ
+declaration_text d a = codes "--   CREATE TABLE " ++ (quoted d a.name ++ (codes " (" ++ (numbered declared_text a.arity ++ codes ");\n")))
 
 -- the given tables
-abbrev pub inputs_text : List Input → List ℕ
-inputs_text [] = []
-inputs_text (a ∷ as') = declaration_text a ++ inputs_text as'
-
--- what a reader should know first
-abbrev pub promise_text : Arithmetic → List ℕ
-promise_text Plain = codes "-- Right, or an error: where a number has more than 64 bits, an error ends it.\n"
-promise_text Wrapped = codes "-- Numbers wrap at 64 bits, as in Loom.\n"
+abbrev pub inputs_text : Dialect → List Input → List ℕ
+inputs_text d [] = []
+inputs_text d (a ∷ as') = declaration_text d a ++ inputs_text d as'
 
 -- what stands before the tables
-abbrev pub head_text : Arithmetic → List Input → List ℕ
+abbrev pub head_text : Form → List Input → List ℕ
 head_text a inputs =
-    codes "-- A query as SQL, for PostgreSQL. It reads these tables:\n" ++ (inputs_text inputs ++ (promise_text a
-    ++ codes "START TRANSACTION ISOLATION LEVEL REPEATABLE READ;\n"))
+    codes "-- A query as SQL, for " ++ (database_name (dialect_of a) ++ (codes ". It reads these tables:\n" ++ (inputs_text (dialect_of a) inputs
+    ++ (promise_text (arithmetic_of a) ++ begin_text (dialect_of a)))))
 
--- a program's script: one transaction, which sees the given tables as they are at one moment, and of which nothing is left
-abbrev pub script_text : Arithmetic → Program → List ℕ
-script_text a p =
-    head_text a p.inputs ++ (tables_text a p.inputs (script_of p).tables
-    ++ (results_text p.inputs (widths_of p.inputs (script_of p).tables) (script_of p).results p.outputs ++ codes "COMMIT;\n"))
+-- what makes a script's tables, and its results
+abbrev pub body_text : Asked → Program → Script → List ℕ
+body_text a p s =
+    tables_text a.form p.inputs (widths_of p.inputs s.tables) (asked_tables a.output s.results p.outputs) s.tables
+    ++ results_text (dialect_of a.form) p.inputs (widths_of p.inputs s.tables) a.output s.results p.outputs
+
+-- a program's script, as it is asked for
+abbrev pub script_text : Asked → Program → List ℕ
+script_text a p = head_text a.form p.inputs ++ (body_text a p (script_of p) ++ end_text (dialect_of a.form))

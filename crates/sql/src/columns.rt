@@ -3,10 +3,10 @@
 ghost use Rattle.std.specs.Prelude.{◌≡◌, ◌++◌, codes, map, OnOk};
 ghost use Rattle.expr_tree.specs.Plain.{plain_agg, plain_pair};
 ghost use Rattle.sql_meaning.specs.Translation.{aggregate_of};
-ghost use Rattle.sql.specs.Text.{aggregate_text, column_text, comma_text, continued, declared_text, joined, keys_text, numbered, pair_text, place_text, sum_close, sum_open};
+ghost use Rattle.sql.specs.Text.{aggregate_text, column_text, comma_text, continued, declared_text, joined, keys_text, made_column_text, numbered, pair_text, place_text, sum_text};
 
+use crate::form::{Dialect, Form};
 use crate::push::{push, push_column, push_number};
-use crate::scalar::Arithmetic;
 use expr_tree::{Agg, Column, Pair};
 use record_core::NoMemory;
 
@@ -84,50 +84,38 @@ fn push_around(text: &mut Vec<u8>, before: &[u8], column: u64, after: &[u8]) -> 
 }
 
 /// Appends a sum.
-fn push_sum(text: &mut Vec<u8>, arithmetic: Arithmetic, column: u64) -> Result<(), NoMemory>
-    ensures { OnOk result (text.new.items ≡ text.old.items ++ (sum_open arithmetic ++ (column_text column ++ sum_close arithmetic))) }
+fn push_sum(text: &mut Vec<u8>, form: Form, column: u64) -> Result<(), NoMemory>
+    ensures { OnOk result (text.new.items ≡ text.old.items ++ sum_text form column) }
 {
-    match arithmetic {
-        Arithmetic::Plain => push_around(text, b"CAST(SUM(", column, b") AS BIGINT)"),
-        Arithmetic::Wrapped => push_around(
-            text,
-            b"CAST(MOD(MOD(SUM(",
-            column,
-            b") + 9223372036854775808, 18446744073709551616) + 18446744073709551616, 18446744073709551616) - 9223372036854775808 AS BIGINT)",
-        ),
-    }
+    push(text, form.arithmetic().sum_open())?;
+    push(text, form.operand_open())?;
+    push_column(text, column)?;
+    push(text, form.operand_close())?;
+    push(text, form.arithmetic().sum_close())
 }
 
 /// Appends an aggregate.
-fn push_aggregate(
-    text: &mut Vec<u8>,
-    arithmetic: Arithmetic,
-    aggregate: &Agg,
-) -> Result<(), NoMemory>
-    ensures { OnOk result (text.new.items ≡ text.old.items ++ aggregate_text arithmetic (aggregate_of (plain_agg aggregate.now))) }
+fn push_aggregate(text: &mut Vec<u8>, form: Form, aggregate: &Agg) -> Result<(), NoMemory>
+    ensures { OnOk result (text.new.items ≡ text.old.items ++ aggregate_text form (aggregate_of (plain_agg aggregate.now))) }
 {
     match aggregate {
         Agg::Count(_) => push(text, b"COUNT(*)"),
-        Agg::Sum(_, column) => push_sum(text, arithmetic, column.index),
+        Agg::Sum(_, column) => push_sum(text, form, column.index),
         Agg::Min(_, column) => push_around(text, b"MIN(", column.index, b")"),
         Agg::Max(_, column) => push_around(text, b"MAX(", column.index, b")"),
     }
 }
 
 /// Appends aggregates, each after a comma.
-pub fn push_aggregates(
-    text: &mut Vec<u8>,
-    arithmetic: Arithmetic,
-    aggregates: &[Agg],
-) -> Result<(), NoMemory>
-    ensures { OnOk result (text.new.items ≡ text.old.items ++ continued (codes ", ") (map (aggregate_text arithmetic) (map aggregate_of (map plain_agg aggregates.now)))) }
+pub fn push_aggregates(text: &mut Vec<u8>, form: Form, aggregates: &[Agg]) -> Result<(), NoMemory>
+    ensures { OnOk result (text.new.items ≡ text.old.items ++ continued (codes ", ") (map (aggregate_text form) (map aggregate_of (map plain_agg aggregates.now)))) }
 {
     match aggregates {
         [] => Ok(()),
         [aggregate, rest @ ..] => {
             push(text, b", ")?;
-            push_aggregate(text, arithmetic, aggregate)?;
-            push_aggregates(text, arithmetic, rest)
+            push_aggregate(text, form, aggregate)?;
+            push_aggregates(text, form, rest)
         }
     }
 }
@@ -142,13 +130,26 @@ fn push_comma(text: &mut Vec<u8>, number: u64) -> Result<(), NoMemory>
     push(text, b", ")
 }
 
-/// Appends the first columns' names.
-pub fn push_names(text: &mut Vec<u8>, count: u64) -> Result<(), NoMemory>
-    ensures { OnOk result (text.new.items ≡ text.old.items ++ numbered column_text count) }
+/// Appends a column as a table that is made has it.
+fn push_made_column(text: &mut Vec<u8>, dialect: Dialect, column: u64) -> Result<(), NoMemory>
+    ensures { OnOk result (text.new.items ≡ text.old.items ++ made_column_text dialect column) }
+{
+    match dialect {
+        Dialect::Postgres | Dialect::Spark => push_column(text, column),
+        Dialect::Sqlite => {
+            push_column(text, column)?;
+            push_around(text, b" CHECK (typeof(", column, b") = 'integer')")
+        }
+    }
+}
+
+/// Appends the first columns as a table that is made has them.
+pub fn push_made_columns(text: &mut Vec<u8>, dialect: Dialect, count: u64) -> Result<(), NoMemory>
+    ensures { OnOk result (text.new.items ≡ text.old.items ++ numbered (made_column_text dialect) count) }
 {
     for i in 0..count {
         push_comma(text, i)?;
-        push_column(text, i)?;
+        push_made_column(text, dialect, i)?;
     }
     Ok(())
 }

@@ -1,6 +1,6 @@
 //! The text of queries.
 
-ghost use Rattle.std.specs.Prelude.{◌≡◌, ◌++◌, [], map, slice_index_or, OnOk};
+ghost use Rattle.std.specs.Prelude.{◌≡◌, ◌++◌, [], decimal, map, slice_index_or, OnOk};
 ghost use Rattle.expr_tree.specs.Plain.{plain_agg, plain_cond, plain_input, plain_pair};
 ghost use Rattle.expr_tree.specs.PlainLists.{plain_scalars};
 ghost use Rattle.expr_tree.specs.Views.{cond_tree};
@@ -8,27 +8,44 @@ ghost use Rattle.sql_meaning.specs.Script as script;
 ghost use Rattle.sql_meaning.specs.Translation.{aggregate_of, expression, search};
 ghost use Rattle.sql.specs.Shown.{shown_query, shown_table};
 ghost use Rattle.sql.specs.Signs.{set_operator_text};
-ghost use Rattle.sql.specs.Text.{both_text, group_text, join_text, query_text, table_text};
+ghost use Rattle.sql.specs.Text.{both_text, group_text, join_text, query_text, quoted, table_text};
 
 use crate::columns::{push_aggregates, push_keys, push_pairs};
 use crate::condition::push_cond;
+use crate::form::{Dialect, Form};
 use crate::push::{push, push_number};
-use crate::scalar::{Arithmetic, push_scalars};
+use crate::scalar::push_scalars;
 use crate::table::{Query, Table};
 use expr_tree::{Agg, Column, Cond, Input, Pair, Scalar, SetOperator};
 use record_core::NoMemory;
 use std::alloc::Allocator;
 
-/// Appends a table's name.
-pub fn push_table(text: &mut Vec<u8>, inputs: &[Input], table: Table) -> Result<(), NoMemory>
-    ensures { OnOk result (text.new.items ≡ text.old.items ++ table_text (map plain_input inputs.now) (shown_table table)) }
+/// Appends the name of a table that is made.
+pub fn push_made(text: &mut Vec<u8>, dialect: Dialect, number: u64) -> Result<(), NoMemory>
+    ensures { OnOk result (text.new.items ≡ text.old.items ++ quoted dialect (decimal number)) }
 {
-    push(text, b"\"")?;
+    push(text, dialect.quote())?;
+    push_number(text, number)?;
+    push(text, dialect.quote())
+}
+
+/// Appends a table's name.
+pub fn push_table(
+    text: &mut Vec<u8>,
+    dialect: Dialect,
+    inputs: &[Input],
+    table: Table,
+) -> Result<(), NoMemory>
+    ensures { OnOk result (text.new.items ≡ text.old.items ++ table_text dialect (map plain_input inputs.now) (shown_table table)) }
+{
     match table {
-        Table::Given(place) => push_input_name(text, inputs, place)?,
-        Table::Made(number) => push_number(text, number)?,
+        Table::Given(place) => {
+            push(text, dialect.quote())?;
+            push_input_name(text, inputs, place)?;
+            push(text, dialect.quote())
+        }
+        Table::Made(number) => push_made(text, dialect, number),
     }
-    push(text, b"\"")
 }
 
 /// Appends an input's name, or nothing beyond the last.
@@ -55,51 +72,52 @@ fn push_set_operator(text: &mut Vec<u8>, operator: SetOperator) -> Result<(), No
 /// Appends a select.
 fn push_select<A: Allocator>(
     text: &mut Vec<u8>,
-    arithmetic: Arithmetic,
+    form: Form,
     inputs: &[Input],
     scalars: &[Scalar<A>],
     from: Table,
 ) -> Result<(), NoMemory>
-    ensures { OnOk result (text.new.items ≡ text.old.items ++ query_text arithmetic (map plain_input inputs.now)
+    ensures { OnOk result (text.new.items ≡ text.old.items ++ query_text form (map plain_input inputs.now)
         (script.Query.select (map expression (plain_scalars scalars.now)) (shown_table from))) }
 {
     push(text, b"SELECT ")?;
-    push_scalars(text, arithmetic, scalars)?;
+    push_scalars(text, form, scalars)?;
     push(text, b" FROM ")?;
-    push_table(text, inputs, from)
+    push_table(text, form.dialect(), inputs, from)
 }
 
 /// Appends a where.
 fn push_where<A: Allocator>(
     text: &mut Vec<u8>,
-    arithmetic: Arithmetic,
+    form: Form,
     inputs: &[Input],
     from: Table,
     condition: &Cond<A>,
 ) -> Result<(), NoMemory>
-    ensures { OnOk result (text.new.items ≡ text.old.items ++ query_text arithmetic (map plain_input inputs.now)
+    ensures { OnOk result (text.new.items ≡ text.old.items ++ query_text form (map plain_input inputs.now)
         (script.Query.select_where (shown_table from) (search (plain_cond (cond_tree condition.now))))) }
 {
     push(text, b"SELECT * FROM ")?;
-    push_table(text, inputs, from)?;
+    push_table(text, form.dialect(), inputs, from)?;
     push(text, b" WHERE ")?;
-    push_cond(text, arithmetic, condition)
+    push_cond(text, form, condition)
 }
 
 /// Appends a join.
 fn push_join(
     text: &mut Vec<u8>,
+    dialect: Dialect,
     inputs: &[Input],
     left: Table,
     right: Table,
     pairs: &[Pair],
 ) -> Result<(), NoMemory>
-    ensures { OnOk result (text.new.items ≡ text.old.items ++ join_text (map plain_input inputs.now) (shown_table left) (shown_table right) (map plain_pair pairs.now)) }
+    ensures { OnOk result (text.new.items ≡ text.old.items ++ join_text dialect (map plain_input inputs.now) (shown_table left) (shown_table right) (map plain_pair pairs.now)) }
 {
     push(text, b"SELECT * FROM ")?;
-    push_table(text, inputs, left)?;
+    push_table(text, dialect, inputs, left)?;
     push(text, b" AS l INNER JOIN ")?;
-    push_table(text, inputs, right)?;
+    push_table(text, dialect, inputs, right)?;
     push(text, b" AS r ON ")?;
     push_pairs(text, pairs)
 }
@@ -107,20 +125,20 @@ fn push_join(
 /// Appends a group.
 fn push_group(
     text: &mut Vec<u8>,
-    arithmetic: Arithmetic,
+    form: Form,
     inputs: &[Input],
     keys: &[Column],
     aggregates: &[Agg],
     from: Table,
 ) -> Result<(), NoMemory>
-    ensures { OnOk result (text.new.items ≡ text.old.items ++ group_text arithmetic (map plain_input inputs.now)
+    ensures { OnOk result (text.new.items ≡ text.old.items ++ group_text form (map plain_input inputs.now)
         (map (λ k. k.index) keys.now) (map aggregate_of (map plain_agg aggregates.now)) (shown_table from)) }
 {
     push(text, b"SELECT ")?;
     push_keys(text, keys)?;
-    push_aggregates(text, arithmetic, aggregates)?;
+    push_aggregates(text, form, aggregates)?;
     push(text, b" FROM ")?;
-    push_table(text, inputs, from)?;
+    push_table(text, form.dialect(), inputs, from)?;
     push(text, b" GROUP BY ")?;
     push_keys(text, keys)
 }
@@ -128,42 +146,50 @@ fn push_group(
 /// Appends all rows of two tables under an operator of sets.
 fn push_both(
     text: &mut Vec<u8>,
+    dialect: Dialect,
     inputs: &[Input],
     operator: SetOperator,
     left: Table,
     right: Table,
 ) -> Result<(), NoMemory>
-    ensures { OnOk result (text.new.items ≡ text.old.items ++ both_text (map plain_input inputs.now) (set_operator_text operator) (shown_table left) (shown_table right)) }
+    ensures { OnOk result (text.new.items ≡ text.old.items ++ both_text dialect (map plain_input inputs.now) (set_operator_text operator) (shown_table left) (shown_table right)) }
 {
     push(text, b"SELECT * FROM ")?;
-    push_table(text, inputs, left)?;
+    push_table(text, dialect, inputs, left)?;
     push_set_operator(text, operator)?;
     push(text, b" SELECT * FROM ")?;
-    push_table(text, inputs, right)
+    push_table(text, dialect, inputs, right)
 }
 
 /// Appends a query.
 pub fn push_query<A: Allocator>(
     text: &mut Vec<u8>,
-    arithmetic: Arithmetic,
+    form: Form,
     inputs: &[Input],
     query: &Query<'_, A>,
 ) -> Result<(), NoMemory>
-    ensures { OnOk result (text.new.items ≡ text.old.items ++ query_text arithmetic (map plain_input inputs.now) (shown_query query.now)) }
+    ensures { OnOk result (text.new.items ≡ text.old.items ++ query_text form (map plain_input inputs.now) (shown_query query.now)) }
 {
     match query {
-        Query::Select(scalars, from) => push_select(text, arithmetic, inputs, scalars, *from),
-        Query::Where(from, condition) => push_where(text, arithmetic, inputs, *from, condition),
-        Query::Join(left, right, pairs) => push_join(text, inputs, *left, *right, pairs),
+        Query::Select(scalars, from) => push_select(text, form, inputs, scalars, *from),
+        Query::Where(from, condition) => push_where(text, form, inputs, *from, condition),
+        Query::Join(left, right, pairs) => push_join(
+            text,
+            form.dialect(),
+            inputs,
+            *left,
+            *right,
+            pairs,
+        ),
         Query::Group(keys, aggregates, from) => {
-            push_group(text, arithmetic, inputs, keys, aggregates, *from)
+            push_group(text, form, inputs, keys, aggregates, *from)
         }
         Query::Distinct(from) => {
             push(text, b"SELECT DISTINCT * FROM ")?;
-            push_table(text, inputs, *from)
+            push_table(text, form.dialect(), inputs, *from)
         }
         Query::SetOperation(operator, left, right) => {
-            push_both(text, inputs, *operator, *left, *right)
+            push_both(text, form.dialect(), inputs, *operator, *left, *right)
         }
     }
 }

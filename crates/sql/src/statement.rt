@@ -1,198 +1,279 @@
 //! The text of a script.
 
-ghost use Rattle.std.specs.Prelude.{◌≡◌, ◌++◌, length, map, IfErr, IfOk, OnOk};
+ghost use Rattle.std.specs.Prelude.{◌≡◌, ◌≤◌, ◌++◌, length, map, option_map, take, true, IfErr, IfOk, OnOk};
 ghost use Rattle.expr_tree.specs.Plain.{plain_input, plain_program};
 ghost use Rattle.expr_tree.specs.PlainLists.{plain_outputs};
 ghost use Rattle.expr_tree.specs.Views.{program_tree};
+ghost use Rattle.sql.specs.Asked.{asked_of, has_output};
 ghost use Rattle.sql.specs.Limits.{IsSqlRefusal};
 ghost use Rattle.sql.specs.Shown.{made_of, shown_query, shown_table};
-ghost use Rattle.sql.specs.Text.{create_text, head_text, inputs_text, promise_text, result_text, results_text, script_text, tables_text, declaration_text};
+ghost use Rattle.sql.specs.Text.{create_text, declaration_text, fill_text, head_text, inputs_text, keep_text, quoted, result_text, results_text, script_text, tables_text};
 ghost use Rattle.sql.specs.Widths.{AreWidths, width_in};
 
-use crate::columns::{push_declared, push_names, push_places};
+use crate::columns::{push_declared, push_made_columns, push_places};
 use crate::counting::{TOO_MANY_TABLES, count_program};
-use crate::push::{push, push_number};
-use crate::query::{push_query, push_table};
-use crate::scalar::Arithmetic;
+use crate::form::{Dialect, Form, Request};
+use crate::push::push;
+use crate::query::{push_made, push_query, push_table};
 use crate::table::{Query, Table};
+use crate::wanted::{NO_SUCH_OUTPUT, has_output, is_asked, is_in, push_asked, push_reads};
 use crate::whole::make_script;
 use crate::widths::{query_width, table_width};
 use expr_tree::{Input, Output, Program};
-use record_core::{Name, NoMemory, Refusal};
+use record_core::{Name, NoMemory, Refusal, Span};
 use std::alloc::{Allocator, Global};
+
+/// Appends what stands between a table's columns and its query.
+fn push_fill(text: &mut Vec<u8>, dialect: Dialect, number: u64) -> Result<(), NoMemory>
+    ensures { OnOk result (text.new.items ≡ text.old.items ++ fill_text dialect number) }
+{
+    match dialect {
+        Dialect::Postgres => push(text, b") ON COMMIT DROP AS\n"),
+        Dialect::Sqlite => {
+            push(text, b");\nINSERT INTO ")?;
+            push_made(text, dialect, number)?;
+            push(text, b"\n")
+        }
+        Dialect::Spark => push(text, b") AS\n"),
+    }
+}
+
+/// Appends what stands after a table's query.
+fn push_keep(text: &mut Vec<u8>, dialect: Dialect, number: u64) -> Result<(), NoMemory>
+    ensures { OnOk result (text.new.items ≡ text.old.items ++ keep_text dialect number) }
+{
+    match dialect {
+        Dialect::Postgres | Dialect::Sqlite => push(text, b";\n"),
+        Dialect::Spark => {
+            push(text, b";\nCACHE TABLE ")?;
+            push_made(text, dialect, number)?;
+            push(text, b";\n")
+        }
+    }
+}
 
 /// Appends what makes a table of so many columns.
 fn push_create<A: Allocator>(
     text: &mut Vec<u8>,
-    arithmetic: Arithmetic,
+    form: Form,
     inputs: &[Input],
     number: u64,
     width: u64,
     query: &Query<'_, A>,
 ) -> Result<(), NoMemory>
-    ensures { OnOk result (text.new.items ≡ text.old.items ++ create_text arithmetic (map plain_input inputs.now) number width (shown_query query.now)) }
+    ensures { OnOk result (text.new.items ≡ text.old.items ++ create_text form (map plain_input inputs.now) number width (shown_query query.now)) }
 {
-    push(text, b"CREATE TEMPORARY TABLE \"")?;
-    push_number(text, number)?;
-    push(text, b"\" (")?;
-    push_names(text, width)?;
-    push(text, b") ON COMMIT DROP AS\n")?;
-    push_query(text, arithmetic, inputs, query)?;
-    push(text, b";\n")
+    let dialect = form.dialect();
+    push(text, dialect.create_word())?;
+    push_made(text, dialect, number)?;
+    push(text, b" (")?;
+    push_made_columns(text, dialect, width)?;
+    push_fill(text, dialect, number)?;
+    push_query(text, form, inputs, query)?;
+    push_keep(text, dialect, number)
 }
 
-/// Appends what makes each table, in order, and gives how many columns each has.
-fn push_tables<A: Allocator>(
+/// How many columns each table has.
+fn table_widths<A: Allocator>(
     alloc: Global,
-    text: &mut Vec<u8>,
-    arithmetic: Arithmetic,
     inputs: &[Input],
     made: &[Query<'_, A>],
 ) -> Result<Vec<u64>, NoMemory>
-    ensures text { OnOk result (text.new.items ≡ text.old.items ++ tables_text arithmetic (map plain_input inputs.now) (made_of made.now)) }
-    ensures widths { IfOk result (λ ws. AreWidths (map plain_input inputs.now) ws.items (made_of made.now)) }
+    ensures { IfOk result (λ ws. AreWidths (map plain_input inputs.now) ws.items (made_of made.now)) }
 {
     let mut widths = Vec::new(alloc);
     for i in 0..made.len() {
-        let query = &made[i];
-        let width = query_width(inputs, &widths, query)?;
-        push_create(text, arithmetic, inputs, i as u64, width, query)?;
+        let width = query_width(inputs, &widths, &made[i])?;
         widths.push(width)?;
     }
     Ok(widths)
 }
 
+/// Appends what makes each of the first tables that is wanted, or that one reads that is made, in order.
+fn push_tables<A: Allocator>(
+    text: &mut Vec<u8>,
+    form: Form,
+    inputs: &[Input],
+    made: &[Query<'_, A>],
+    widths: &[u64],
+    wanted: &mut Vec<u64>,
+    count: usize,
+) -> Result<(), NoMemory>
+    requires count { count ≤ length made.now }
+    ensures { OnOk result (text.new.items ≡ text.old.items ++ tables_text form (map plain_input inputs.now) (width_in (map plain_input inputs.now) widths.now) wanted.old.items (made_of (take count made.now))) }
+{
+    if count == 0 {
+        return Ok(());
+    }
+    let number = count - 1;
+    if !is_in(number as u64, wanted) {
+        return push_tables(text, form, inputs, made, widths, wanted, number);
+    }
+    let query = &made[number];
+    push_reads(wanted, query)?;
+    push_tables(text, form, inputs, made, widths, wanted, number)?;
+    let width = table_width(inputs, widths, Table::Made(number as u64));
+    push_create(text, form, inputs, number as u64, width, query)
+}
+
 /// Appends what gives the rows of an output's table, in order.
 fn push_result(
     text: &mut Vec<u8>,
+    dialect: Dialect,
     inputs: &[Input],
     width: u64,
     table: Table,
     name: &Name,
 ) -> Result<(), NoMemory>
-    ensures { OnOk result (text.new.items ≡ text.old.items ++ result_text (map plain_input inputs.now) width (shown_table table) name.now) }
+    ensures { OnOk result (text.new.items ≡ text.old.items ++ result_text dialect (map plain_input inputs.now) width (shown_table table) name.now) }
 {
     push(text, b"-- ")?;
     push(text, name.bytes())?;
     push(text, b"\nSELECT * FROM ")?;
-    push_table(text, inputs, table)?;
+    push_table(text, dialect, inputs, table)?;
     push(text, b" ORDER BY ")?;
     push_places(text, width)?;
     push(text, b";\n")
 }
 
-/// Appends what gives the rows of each output, in order.
+/// Appends what gives the rows of each output that is asked for, in order.
 fn push_results<A: Allocator>(
     text: &mut Vec<u8>,
+    dialect: Dialect,
     inputs: &[Input],
     widths: &[u64],
+    asked: Option<&[u8]>,
     results: &[Table],
     outputs: &[Output<A>],
 ) -> Result<(), NoMemory>
     ensures { OnOk result (text.new.items ≡ text.old.items
-        ++ results_text (map plain_input inputs.now) (width_in (map plain_input inputs.now) widths.now) (map shown_table results.now) (plain_outputs outputs.now)) }
+        ++ results_text dialect (map plain_input inputs.now) (width_in (map plain_input inputs.now) widths.now) (option_map (λ s. s.now) asked.entry) (map shown_table results.now) (plain_outputs outputs.now)) }
 {
     match results {
         [] => Ok(()),
         [table, results @ ..] => match outputs {
             [] => Ok(()),
             [output, outputs @ ..] => {
-                let width = table_width(inputs, widths, *table);
-                push_result(text, inputs, width, *table, &output.name)?;
-                push_results(text, inputs, widths, results, outputs)
+                if is_asked(asked, &output.name) {
+                    let width = table_width(inputs, widths, *table);
+                    push_result(text, dialect, inputs, width, *table, &output.name)?;
+                }
+                push_results(text, dialect, inputs, widths, asked, results, outputs)
             }
         },
     }
 }
 
-/// Appends a given table as it should be, in a comment.
-fn push_declaration(text: &mut Vec<u8>, input: &Input) -> Result<(), NoMemory>
-    ensures { OnOk result (text.new.items ≡ text.old.items ++ declaration_text (plain_input input.now)) }
+/// Appends a name in quotes.
+fn push_named(text: &mut Vec<u8>, dialect: Dialect, name: &Name) -> Result<(), NoMemory>
+    ensures { OnOk result (text.new.items ≡ text.old.items ++ quoted dialect name.now) }
 {
-    push(text, b"--   CREATE TABLE \"")?;
-    push(text, input.name.bytes())?;
-    push(text, b"\" (")?;
+    push(text, dialect.quote())?;
+    push(text, name.bytes())?;
+    push(text, dialect.quote())
+}
+
+/// Appends a given table as it should be, in a comment.
+fn push_declaration(text: &mut Vec<u8>, dialect: Dialect, input: &Input) -> Result<(), NoMemory>
+    ensures { OnOk result (text.new.items ≡ text.old.items ++ declaration_text dialect (plain_input input.now)) }
+{
+    push(text, b"--   CREATE TABLE ")?;
+    push_named(text, dialect, &input.name)?;
+    push(text, b" (")?;
     push_declared(text, input.arity)?;
     push(text, b");\n")
 }
 
 /// Appends the given tables as they should be.
-fn push_inputs(text: &mut Vec<u8>, inputs: &[Input]) -> Result<(), NoMemory>
-    ensures { OnOk result (text.new.items ≡ text.old.items ++ inputs_text (map plain_input inputs.now)) }
+fn push_inputs(text: &mut Vec<u8>, dialect: Dialect, inputs: &[Input]) -> Result<(), NoMemory>
+    ensures { OnOk result (text.new.items ≡ text.old.items ++ inputs_text dialect (map plain_input inputs.now)) }
 {
     match inputs {
         [] => Ok(()),
         [input, rest @ ..] => {
-            push_declaration(text, input)?;
-            push_inputs(text, rest)
+            push_declaration(text, dialect, input)?;
+            push_inputs(text, dialect, rest)
         }
     }
 }
 
-/// Appends what a reader should know first.
-fn push_promise(text: &mut Vec<u8>, arithmetic: Arithmetic) -> Result<(), NoMemory>
-    ensures { OnOk result (text.new.items ≡ text.old.items ++ promise_text arithmetic) }
-{
-    match arithmetic {
-        Arithmetic::Plain => push(
-            text,
-            b"-- Right, or an error: where a number has more than 64 bits, an error ends it.\n",
-        ),
-        Arithmetic::Wrapped => push(text, b"-- Numbers wrap at 64 bits, as in Loom.\n"),
-    }
-}
-
 /// Appends what stands before the tables.
-fn push_head(text: &mut Vec<u8>, arithmetic: Arithmetic, inputs: &[Input]) -> Result<(), NoMemory>
-    ensures { OnOk result (text.new.items ≡ text.old.items ++ head_text arithmetic (map plain_input inputs.now)) }
+fn push_head(text: &mut Vec<u8>, form: Form, inputs: &[Input]) -> Result<(), NoMemory>
+    ensures { OnOk result (text.new.items ≡ text.old.items ++ head_text form (map plain_input inputs.now)) }
 {
-    push(
-        text,
-        b"-- A query as SQL, for PostgreSQL. It reads these tables:\n",
-    )?;
-    push_inputs(text, inputs)?;
-    push_promise(text, arithmetic)?;
-    push(
-        text,
-        b"START TRANSACTION ISOLATION LEVEL REPEATABLE READ;\n",
-    )
+    let dialect = form.dialect();
+    push(text, b"-- A query as SQL, for ")?;
+    push(text, dialect.database_name())?;
+    push(text, b". It reads these tables:\n")?;
+    push_inputs(text, dialect, inputs)?;
+    push(text, form.arithmetic().promise_text())?;
+    push(text, dialect.begin_text())
 }
 
 /// The text of a program's script.
 fn text_of<A: Allocator>(
     alloc: Global,
     program: &Program<A>,
-    arithmetic: Arithmetic,
+    request: Request<'_>,
 ) -> Result<Vec<u8>, NoMemory>
-    ensures { IfOk result (λ t. t.items ≡ script_text arithmetic (plain_program (program_tree program.now))) }
+    ensures { IfOk result (λ t. t.items ≡ script_text (asked_of request.entry) (plain_program (program_tree program.now))) }
 {
     let script = make_script(alloc, program)?;
     let inputs = &program.inputs;
+    let outputs = &program.outputs;
+    let widths = table_widths(alloc, inputs, &script.made)?;
+    let mut wanted = Vec::new(alloc);
+    push_asked(&mut wanted, request.output, &script.results, outputs)?;
     let mut text = Vec::new(alloc);
-    push_head(&mut text, arithmetic, inputs)?;
-    let widths = push_tables(alloc, &mut text, arithmetic, inputs, &script.made)?;
+    push_head(&mut text, request.form, inputs)?;
+    push_tables(
+        &mut text,
+        request.form,
+        inputs,
+        &script.made,
+        &widths,
+        &mut wanted,
+        script.made.len(),
+    )?;
     push_results(
         &mut text,
+        request.form.dialect(),
         inputs,
         &widths,
+        request.output,
         &script.results,
-        &program.outputs,
+        outputs,
     )?;
-    push(&mut text, b"COMMIT;\n")?;
+    push(&mut text, request.form.dialect().end_text())?;
     Ok(text)
 }
 
-/// The text of a program's script, for PostgreSQL: each table that it makes, then the rows of each output, in order, as one transaction. A program
-/// that takes more than 4096 tables is refused, at the name of the let or output where they become too many. A loop takes its body's tables at each
-/// turn.
+/// The place that is told where no output has the name: that of the first output's.
+fn outputs_place<A: Allocator>(program: &Program<A>) -> Span {
+    match program.outputs.first() {
+        Some(output) => output.name_span,
+        None => Span { start: 0, end: 0 },
+    }
+}
+
+/// The text of a program's script: each table that its outputs need, then the rows of each output, in order; or of the one output that is asked for. It
+/// is refused where no output has that name, at the name of the first. A program that takes more than 4096 tables is refused, at the name of the let
+/// or output where they become too many. A loop takes its body's tables at each turn.
 pub fn sql_text<A: Allocator>(
     alloc: Global,
     program: &Program<A>,
-    arithmetic: Arithmetic,
+    request: Request<'_>,
 ) -> Result<Vec<u8>, Refusal>
-    ensures text { IfOk result (λ t. t.items ≡ script_text arithmetic (plain_program (program_tree program.now))) }
-    ensures refusal { IfErr result (IsSqlRefusal (plain_program (program_tree program.now))) }
+    ensures text { IfOk result (λ t. t.items ≡ script_text (asked_of request.entry) (plain_program (program_tree program.now))) }
+    ensures output { IfOk result (λ t. has_output (asked_of request.entry).output (plain_program (program_tree program.now)).outputs ≡ true) }
+    ensures refusal { IfErr result (IsSqlRefusal (asked_of request.entry).output (plain_program (program_tree program.now))) }
 {
+    if !has_output(request.output, &program.outputs) {
+        return Err(Refusal::At {
+            code: NO_SUCH_OUTPUT,
+            span: outputs_place(program),
+        });
+    }
     match count_program(program) {
         Ok(_) => {}
         Err(span) => {
@@ -202,7 +283,7 @@ pub fn sql_text<A: Allocator>(
             });
         }
     }
-    match text_of(alloc, program, arithmetic) {
+    match text_of(alloc, program, request) {
         Ok(text) => Ok(text),
         Err(_) => Err(Refusal::NoMemory),
     }

@@ -8,3 +8,4 @@ pub mod AnyOrder
 pub mod Remainder
 pub mod Plain
 pub mod PlainScript
+pub mod Wanted

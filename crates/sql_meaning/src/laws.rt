@@ -12,9 +12,10 @@ ghost use Rattle.sql_meaning.specs.Plain.{plain, HasNoError};
 ghost use Rattle.sql_meaning.specs.PlainScript.{plain_answers, ScriptHasNoError};
 ghost use Rattle.sql_meaning.specs.Range.{IsRowOfWords, StaysModerate};
 ghost use Rattle.sql_meaning.specs.Remainder.{by_remainders};
-ghost use Rattle.sql_meaning.specs.Script.{Script};
-ghost use Rattle.sql_meaning.specs.ScriptMeaning.{answers, evaluated};
+ghost use Rattle.sql_meaning.specs.Script.{Script, Table};
+ghost use Rattle.sql_meaning.specs.ScriptMeaning.{answers, contents, evaluated};
 ghost use Rattle.sql_meaning.specs.Translation.{expression, script_of, HaveWords};
+ghost use Rattle.sql_meaning.specs.Wanted.{contents_of_wanted, IsWanted};
 ghost use Rattle.sql_meaning.specs.WellFormed.{IsWellFormed};
 
 /// On tables of 64-bit numbers, one for each input, the script of a program gives at each output what the program means there.
@@ -57,4 +58,10 @@ pub fn law_plain()
 /// A script that is written without wrapping answers as the script with it, wherever no operator, count or sum in it is an error.
 pub fn law_right_or_error()
     ensures { (s : Script) (tables : List (List Record)) → ScriptHasNoError s.tables tables → plain_answers s tables ≡ answers s tables }
+{}
+
+/// A wanted table holds the same where only wanted tables are made, and those that one reads that is made.
+pub fn law_wanted()
+    ensures { (wanted : List ℕ) (s : Script) (tables : List (List Record)) (t : Table) → IsWanted wanted t →
+        contents_of_wanted wanted s.tables tables t ≡ contents s.tables tables t }
 {}

@@ -14,6 +14,6 @@ returns-in-Literal g t c =
 
 pub returns-in_ok-push_scalar-in-Binary-2 : goal.returns-in_ok-push_scalar-in-Binary-2
 returns-in_ok-push_scalar-in-Binary-2 g t c =
-    rw c.in-Binary.is (binary_appended c.push_close.result c.args.arithmetic c.in-Binary.operator (plain_scalar (scalar_tree c.in-Binary.left.value)) (plain_scalar (scalar_tree c.in-Binary.right.value))
+    rw c.in-Binary.is (binary_appended c.push_close.result c.args.form c.in-Binary.operator (plain_scalar (scalar_tree c.in-Binary.left.value)) (plain_scalar (scalar_tree c.in-Binary.right.value))
     c.args.text.now.items _ _ _ _ _ c.in_ok-push_open-in-Binary.ensures (rw c.deref.ensures at c.in_ok-push_scalar-in-Binary.ensures)
     c.in_ok-push_between-in-Binary.ensures (rw c.deref-in-Binary.ensures at c.in_ok-push_scalar-in-Binary-2.ensures) c.push_close.ensures)

@@ -1,0 +1,9 @@
+//! How a script of SQL is to be written.
+
+/// The database that a script is for, and whether its numbers wrap at 64 bits. SQLite's can't.
+#[derive(Clone, Copy, Debug, PartialEq, Eq)]
+pub enum ScriptForm {
+    Postgres { wrapped: bool },
+    Sqlite,
+    Spark { wrapped: bool },
+}

@@ -1,0 +1,102 @@
+-- Tables that nothing wanted reads can be left out.
+use Rattle.std.proofs.Common.{◌≡◌, ℕ, Bool, true, false, cond, nat_eq, ◌||◌, List, [], ◌∷◌, ◌++◌, map, length, refl, sym, subst, ap, ap₂, ◌∙◌, arith}
+use Rattle.std.proofs.lemmas.Bool.Decides.{nat_tests}
+use Rattle.std.specs.List.{AllByRecursion}
+use Rattle.semantics.specs.Multiset.{Record}
+use Rattle.sql_meaning.specs.Script.{Table, Query, Script}
+use Rattle.sql_meaning.specs.ScriptMeaning.{Contents, rows_of, with_table, only_given, contents, answers}
+use Rattle.sql_meaning.specs.Wanted.{is_in, number_of, reads, contents_of_wanted, IsWanted}
+
+or_true : (a : Bool) → (a || true) ≡ true
+or_true true = refl
+or_true false = refl
+
+or_left : (a b : Bool) → a ≡ true → (a || b) ≡ true
+or_left a b e = rw e refl
+
+in_front : (n : ℕ) (ms ns : List ℕ) → is_in n ms ≡ true → is_in n (ms ++ ns) ≡ true
+in_front n [] ns e = absurd cc
+in_front n (m ∷ ms) ns e = by (nat_eq m n) e (λ h. in_front n ms ns h)
+  where
+    by : (b : Bool) → (b || is_in n ms) ≡ true → (is_in n ms ≡ true → is_in n (ms ++ ns) ≡ true) → (b || is_in n (ms ++ ns)) ≡ true
+    by true h f = refl
+    by false h f = f h
+
+in_back : (n : ℕ) (ms ns : List ℕ) → is_in n ns ≡ true → is_in n (ms ++ ns) ≡ true
+in_back n [] ns e = e
+in_back n (m ∷ ms) ns e = by (nat_eq m n) (in_back n ms ns e)
+  where
+    by : (b : Bool) → is_in n (ms ++ ns) ≡ true → (b || is_in n (ms ++ ns)) ≡ true
+    by true h = refl
+    by false h = h
+
+same_number : (n : ℕ) → nat_eq n n ≡ true
+same_number n = grind (arith, nat_tests)
+
+other_number : (m n : ℕ) → nat_eq m n ≡ true → m ≡ n
+other_number m n e = grind (arith, nat_tests)
+
+-- two contents agree on the wanted tables
+abbrev Agree : List ℕ → Contents → Contents → Type 0
+Agree wanted a b = (t : Table) → IsWanted wanted t → a t ≡ b t
+
+kept : (t : Table) (ms ns : List ℕ) → IsWanted ms t → IsWanted (ms ++ ns) t
+kept (Table.given i) ms ns w = tt
+kept (Table.made n) ms ns w = in_front n ms ns w
+
+own : (t : Table) → IsWanted (number_of t) t
+own (Table.given i) = tt
+own (Table.made n) = or_left (nat_eq n n) false (same_number n)
+
+more : (t : Table) (ms ns : List ℕ) → IsWanted ns t → IsWanted (ms ++ ns) t
+more (Table.given i) ms ns w = tt
+more (Table.made n) ms ns w = in_back n ms ns w
+
+front : (t : Table) (ms : List ℕ) → IsWanted (ms ++ number_of t) t
+front t ms = more t ms (number_of t) (own t)
+
+first_of_two : (t u : Table) (ms : List ℕ) → IsWanted (ms ++ (number_of t ++ number_of u)) t
+first_of_two t u ms = more t ms (number_of t ++ number_of u) (kept t (number_of t) (number_of u) (own t))
+
+second_of_two : (t u : Table) (ms : List ℕ) → IsWanted (ms ++ (number_of t ++ number_of u)) u
+second_of_two t u ms = more u ms (number_of t ++ number_of u) (more u (number_of t) (number_of u) (own u))
+
+-- the rows of a query depend only on the tables that it reads
+rows_agree : (q : Query) (ms : List ℕ) (a b : Contents) → Agree (ms ++ reads q) a b → rows_of q a ≡ rows_of q b
+unfolding rows_of
+rows_agree (Query.select es t) ms a b h = ap (λ xs. rows_of (Query.select es t) (λ u. xs)) (h t (front t ms))
+rows_agree (Query.select_where t c) ms a b h = ap (λ xs. rows_of (Query.select_where t c) (λ u. xs)) (h t (front t ms))
+rows_agree (Query.select_join t u ps) ms a b h = rw (h t (first_of_two t u ms), h u (second_of_two t u ms)) refl
+rows_agree (Query.select_group ks as' t) ms a b h = ap (λ xs. rows_of (Query.select_group ks as' t) (λ u. xs)) (h t (front t ms))
+rows_agree (Query.select_distinct t) ms a b h = ap (λ xs. rows_of (Query.select_distinct t) (λ u. xs)) (h t (front t ms))
+rows_agree (Query.union_all t u) ms a b h = rw (h t (first_of_two t u ms), h u (second_of_two t u ms)) refl
+rows_agree (Query.except t u) ms a b h = rw (h t (first_of_two t u ms), h u (second_of_two t u ms)) refl
+rows_agree (Query.intersect t u) ms a b h = rw (h t (first_of_two t u ms), h u (second_of_two t u ms)) refl
+
+with_agree : (n : ℕ) (xs ys : List Record) (wanted : List ℕ) (a b : Contents) → xs ≡ ys → Agree wanted a b → Agree wanted (with_table n xs a) (with_table n ys b)
+with_agree n xs ys wanted a b e h (Table.given i) w = h (Table.given i) tt
+with_agree n xs ys wanted a b e h (Table.made m) w = ap₂ (λ us vs. cond (nat_eq m n) us vs) e (h (Table.made m) w)
+
+-- what is read by no one is as before
+kept_out : (n : ℕ) (ys : List Record) (wanted : List ℕ) (a b : Contents) → is_in n wanted ≡ false → Agree wanted a b → Agree wanted a (with_table n ys b)
+kept_out n ys wanted a b f h (Table.given i) w = h (Table.given i) tt
+kept_out n ys wanted a b f h (Table.made m) w = by (nat_eq m n) refl
+  where
+    by : (c : Bool) → nat_eq m n ≡ c → a (Table.made m) ≡ cond c ys (b (Table.made m))
+    by true e = (let same : m ≡ n = other_number m n e in let bad : true ≡ false = sym w ∙ ap (λ k. is_in k wanted) same ∙ f in absurd cc)
+    by false e = h (Table.made m) w
+
+agree : (wanted : List ℕ) (qs : List Query) (tables : List (List Record)) → Agree wanted (contents_of_wanted wanted qs tables) (contents qs tables)
+agree wanted [] tables = λ t w. refl
+agree wanted (q ∷ earlier) tables = by (agree (wanted ++ reads q) earlier tables) (agree wanted earlier tables) (is_in (length earlier) wanted) refl
+  where
+    by : Agree (wanted ++ reads q) (contents_of_wanted (wanted ++ reads q) earlier tables) (contents earlier tables) → Agree wanted (contents_of_wanted wanted earlier tables) (contents earlier tables) → (c : Bool) → is_in (length earlier) wanted ≡ c → Agree wanted
+        (cond c (with_table (length earlier) (rows_of q (contents_of_wanted (wanted ++ reads q) earlier tables)) (contents_of_wanted (wanted ++ reads q) earlier tables)) (contents_of_wanted wanted earlier tables))
+        (contents (q ∷ earlier) tables)
+    by below same true e =
+        with_agree (length earlier) (rows_of q (contents_of_wanted (wanted ++ reads q) earlier tables)) (rows_of q (contents earlier tables)) wanted
+        (contents_of_wanted (wanted ++ reads q) earlier tables) (contents earlier tables) (rows_agree q wanted _ _ below) (λ t w. below t (kept t wanted (reads q) w))
+    by below same false e = kept_out (length earlier) (rows_of q (contents earlier tables)) wanted (contents_of_wanted wanted earlier tables) (contents earlier tables) e same
+
+pub unwanted : (wanted : List ℕ) (s : Script) (tables : List (List Record)) (t : Table) → IsWanted wanted t → contents_of_wanted wanted s.tables tables t ≡ contents s.tables tables t
+unwanted wanted s tables t w = agree wanted s.tables tables t w

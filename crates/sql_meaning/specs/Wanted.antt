@@ -1,0 +1,39 @@
+-- Scripts of which only some tables are made: those that are wanted, and those that these read.
+use Rattle.std.specs.Prelude.{◌≡◌, ℕ, Bool, true, false, cond, nat_eq, ◌||◌, List, [], ◌∷◌, ◌++◌, length}
+use Rattle.semantics.specs.Multiset.{Record}
+use Rattle.sql_meaning.specs.Script.{Table, Query}
+use Rattle.sql_meaning.specs.ScriptMeaning.{Contents, rows_of, with_table, only_given}
+
+-- the number is in the list
+abbrev pub is_in : ℕ → List ℕ → Bool
+is_in n [] = false
+is_in n (m ∷ ms) = nat_eq m n || is_in n ms
+
+-- the number of a table, if the script makes it
+abbrev pub number_of : Table → List ℕ
+number_of (Table.given i) = []
+number_of (Table.made n) = n ∷ []
+
+-- the numbers of the tables that a query reads, of those that the script makes
+abbrev pub reads : Query → List ℕ
+reads (Query.select es t) = number_of t
+reads (Query.select_where t c) = number_of t
+reads (Query.select_join t u ps) = number_of t ++ number_of u
+reads (Query.select_group ks as' t) = number_of t
+reads (Query.select_distinct t) = number_of t
+reads (Query.union_all t u) = number_of t ++ number_of u
+reads (Query.except t u) = number_of t ++ number_of u
+reads (Query.intersect t u) = number_of t ++ number_of u
+
+-- what each table holds after the tables of a script, the latest first, if only those are made that are wanted, or that one reads that is made
+abbrev pub contents_of_wanted : (wanted : List ℕ) → List Query → List (List Record) → Contents
+contents_of_wanted wanted [] tables = only_given tables
+contents_of_wanted wanted (q ∷ earlier) tables =
+    cond (is_in (length earlier) wanted)
+    (with_table (length earlier) (rows_of q (contents_of_wanted (wanted ++ reads q) earlier tables)) (contents_of_wanted (wanted ++ reads q) earlier tables))
+    (contents_of_wanted wanted earlier tables)
+
+-- a given table, or one that is wanted
+abbrev pub IsWanted : List ℕ → Table → Type 0
+IsWanted wanted (Table.given i) = Unit {0}
+IsWanted wanted (Table.made n) = is_in n wanted ≡ true
