@@ -103,7 +103,7 @@ explain_app = with_rule (new_app (codes "explain")) (word_rule (codes "CODE"))
 abbrev pub program_app : App
 program_app = record (new_app (codes "loom")) { top = record (new_app (codes "loom")).top { has_version = true } }
 
--- the whole line
+-- the whole line; what `encode`, `decode` and `kinds` take is read apart
 abbrev pub line_app : App
 line_app =
     let top : App = record { top = record (new_app (codes "loom")).top { subcommand_required = true; has_version = true }; subs = [] } in
@@ -111,11 +111,17 @@ line_app =
     (with_subcommand
     (with_subcommand
     (with_subcommand
+    (with_subcommand
+    (with_subcommand
+    (with_subcommand
     (with_subcommand (with_subcommand (with_subcommand (with_subcommand top run_app.top) follow_app.top) check_app.top) graph_app.top)
     format_app.top)
     sql_app.top)
     replay_app.top)
-    explain_app.top
+    explain_app.top)
+    (new_app (codes "encode")).top)
+    (new_app (codes "decode")).top)
+    (new_app (codes "kinds")).top
 
 -- the flag is what the matches hold of it
 abbrev pub IsFlag : Text → List Row → Bool → Type 0

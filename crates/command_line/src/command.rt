@@ -324,7 +324,22 @@ pub fn line_command<'a>(alloc: Global) -> Result<Command<'a>, AllocError>
         .subcommand(format_command(alloc)?)?
         .subcommand(sql_command(alloc)?)?
         .subcommand(replay_command(alloc)?)?
-        .subcommand(explain_command(alloc)?)
+        .subcommand(explain_command(alloc)?)?
+        .subcommand(named(
+            alloc,
+            "encode",
+            "Write CSV files as an input, by a schema",
+        ))?
+        .subcommand(named(
+            alloc,
+            "decode",
+            "Write an answer as a CSV file, by a schema",
+        ))?
+        .subcommand(named(
+            alloc,
+            "kinds",
+            "Say what a query's fields stand for, by a schema",
+        ))
 }
 
 /// The first text of an argument.

@@ -1,5 +1,5 @@
 # Deliberate mistakes: no command `format`, a command `walk`, no `run --dot`, and an option `follow --watch`.
-    local commands="run follow replay check graph sql explain help walk"
+    local commands="run follow replay check graph sql encode decode explain help walk"
         run) words="--workers --watch --stats --end-mark --explain --inline --help" ;;
         follow) words="--workers --watch --first-epoch --end-mark --explain --inline --help" ;;
         replay) words="--workers --views --explain --inline --help" ;;
@@ -7,3 +7,5 @@
         graph) words="--dot --heap --explain --inline --help" ;;
         format) words="--explain --inline --help" ;;
         sql) words="--wrapped --dialect --output --explain --inline --help" ;;
+        encode) words="--dictionary --help" ;;
+        decode) words="--dictionary --output --help" ;;

@@ -6,6 +6,7 @@ use std::io;
 use std::io::{Read, Write};
 use std::sync::Wait;
 use std::thread::Threads;
+use table_commands::{Drafts, answer_tables, is_of_tables};
 
 /// How often a run is repeated with each other number of workers.
 const TIMES: usize = 20;
@@ -47,12 +48,43 @@ impl<'a> Sources<'a> for Page<'a> {
     }
 }
 
+/// A dictionary that a page's line writes isn't kept: those that pages name have all their texts.
+impl Drafts for Page<'_> {
+    type Draft = ();
+
+    fn begin(&self, _name: &str) -> io::Result<()> {
+        Ok(())
+    }
+
+    fn keep(&self, _draft: (), _text: &[u8]) -> io::Result<()> {
+        Ok(())
+    }
+
+    fn discard(&self, _draft: ()) {}
+}
+
 /// What the program prints, and its status.
 #[derive(Drop, PartialEq, Eq)]
 struct Printed {
     status: u8,
     out: Vec<u8>,
     err: Vec<u8>,
+}
+
+/// What the program prints that is called with these words of `encode` or `decode`.
+fn tables_print(rt: &HostRuntime, piped: Option<&[u8]>, words: &[&str]) -> io::Result<Printed> {
+    let page = Page {
+        disk: Disk::new(rt),
+        piped,
+    };
+    let mut out = Watched::new(Vec::new(rt.alloc()));
+    let mut err = Vec::new(rt.alloc());
+    let status = answer_tables(rt.alloc(), &page, &page, words, &mut out, &mut err);
+    Ok(Printed {
+        status,
+        out: out.into_inner(),
+        err,
+    })
 }
 
 /// What the program prints that is called with these words, the first of which is its own name.
@@ -62,6 +94,9 @@ fn prints(
     piped: Option<&[u8]>,
     words: &[&str],
 ) -> io::Result<Printed> {
+    if is_of_tables(words) {
+        return tables_print(rt, piped, words);
+    }
     let page = Page {
         disk: Disk::new(rt),
         piped,

@@ -1,4 +1,5 @@
-//! The program `loom`: words, files, exit status. What it answers is `console`'s; only whether standard error is a terminal is asked here.
+//! The program `loom`: words, files, exit status. What it answers is `console`'s, and `table_commands`' for CSV files; only whether standard error is a
+//! terminal is asked here.
 #![tactic(auto)]
 
 ghost use Rattle.std.specs.Prelude.{None, Some, map};
@@ -14,6 +15,7 @@ use std::process::ExitCode;
 use std::sync::Wait;
 use std::thread::Threads;
 use std::{env, io};
+use table_commands::{DiskDrafts, answer_tables, is_of_tables};
 
 /// The words of the line, the first of which is the program's own.
 fn words_given(rt: &HostRuntime) -> Result<Vec<String>, LineFault> {
@@ -50,6 +52,15 @@ fn answer_words<'a>(
     answer(threads, alloc, disk, words, streams, transcripts)
 }
 
+/// Answers a line of `encode` or `decode` over the system's files and streams.
+fn answer_tables_here(rt: &HostRuntime, words: &[&str]) -> u8 {
+    let disk = Disk::new(rt);
+    let drafts = DiskDrafts::new(rt, rt.alloc());
+    let mut out = Watched::new(io::writer(rt));
+    let mut err = rt.stderr();
+    answer_tables(rt.alloc(), &disk, &drafts, words, &mut out, &mut err)
+}
+
 /// The same over the system's files and streams.
 fn answer_here(rt: &HostRuntime, threads: &(impl Threads + Wait + Sync), words: &[&str]) -> u8 {
     let disk = Disk::new(rt);
@@ -79,7 +90,12 @@ fn answer_line(rt: &HostRuntime, threads: &(impl Threads + Wait + Sync)) -> Resu
     else {
         return Err(LineFault::NoMemory);
     };
-    Ok(answer_here(rt, threads, words.as_slice()))
+    let words = words.as_slice();
+    if is_of_tables(words) {
+        Ok(answer_tables_here(rt, words))
+    } else {
+        Ok(answer_here(rt, threads, words))
+    }
 }
 
 fn main(rt: HostRuntime) -> ExitCode {

@@ -20,4 +20,7 @@ returns c =
     let five = c.in_ok-subcommand-5.ensures.shape c.in_ok-format_command.ensures.local ∙ ap₂ with_subcommand four (ap top_of c.in_ok-format_command.ensures.app) in
     let six = c.in_ok-subcommand-6.ensures.shape c.in_ok-sql_command.ensures.local ∙ ap₂ with_subcommand five (ap top_of c.in_ok-sql_command.ensures.app) in
     let seven = c.in_ok-subcommand-7.ensures.shape c.in_ok-replay_command.ensures.local ∙ ap₂ with_subcommand six (ap top_of c.in_ok-replay_command.ensures.app) in
-    IfOk-weaker c.subcommand-8.result _ _ (λ r h. h.shape c.in_ok-explain_command.ensures.local ∙ ap₂ with_subcommand seven (ap top_of c.in_ok-explain_command.ensures.app)) c.subcommand-8.ensures
+    let eight = c.in_ok-subcommand-8.ensures.shape c.in_ok-explain_command.ensures.local ∙ ap₂ with_subcommand seven (ap top_of c.in_ok-explain_command.ensures.app) in
+    let nine = c.in_ok-subcommand-9.ensures.shape c.named.ensures.local ∙ ap₂ with_subcommand eight (ap top_of c.named.ensures.app) in
+    let ten = c.in_ok-subcommand-10.ensures.shape c.named-2.ensures.local ∙ ap₂ with_subcommand nine (ap top_of c.named-2.ensures.app) in
+    IfOk-weaker c.subcommand-11.result _ _ (λ r h. h.shape c.named-3.ensures.local ∙ ap₂ with_subcommand ten (ap top_of c.named-3.ensures.app)) c.subcommand-11.ensures
