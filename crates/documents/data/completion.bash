@@ -3,7 +3,7 @@
 
 _loom() {
     local word=${COMP_WORDS[COMP_CWORD]} before=${COMP_WORDS[COMP_CWORD - 1]} words=
-    local commands="run follow replay check graph format sql encode decode explain help"
+    local commands="run follow replay check graph format sql encode decode kinds explain help"
     if [ "$COMP_CWORD" -eq 1 ]; then
         words="$commands --build --version --help"
     elif [ "$before" = --workers ]; then
@@ -25,6 +25,7 @@ _loom() {
         sql) words="--wrapped --dialect --output --explain --inline --help" ;;
         encode) words="--dictionary --help" ;;
         decode) words="--dictionary --output --help" ;;
+        kinds) words="--help" ;;
         esac
     else
         compopt -o filenames 2>/dev/null

@@ -1,5 +1,5 @@
 # Deliberate mistakes: no command `format`, a command `walk`, no `run --dot`, and an option `follow --watch`.
-    local commands="run follow replay check graph sql encode decode explain help walk"
+    local commands="run follow replay check graph sql encode decode kinds explain help walk"
         run) words="--workers --watch --stats --end-mark --explain --inline --help" ;;
         follow) words="--workers --watch --first-epoch --end-mark --explain --inline --help" ;;
         replay) words="--workers --views --explain --inline --help" ;;
@@ -9,3 +9,4 @@
         sql) words="--wrapped --dialect --output --explain --inline --help" ;;
         encode) words="--dictionary --help" ;;
         decode) words="--dictionary --output --help" ;;
+        kinds) words="--help" ;;

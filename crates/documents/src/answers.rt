@@ -71,7 +71,7 @@ struct Printed {
     err: Vec<u8>,
 }
 
-/// What the program prints that is called with these words of `encode` or `decode`.
+/// What the program prints that is called with these words of `encode`, `decode` or `kinds`.
 fn tables_print(rt: &HostRuntime, piped: Option<&[u8]>, words: &[&str]) -> io::Result<Printed> {
     let page = Page {
         disk: Disk::new(rt),

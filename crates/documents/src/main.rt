@@ -121,14 +121,6 @@ fn lists(rt: &HostRuntime, threads: &(impl Threads + Wait + Sync), path: &str) -
     is_listed(rt, path, page.as_str(), own.as_str(), helps.as_slice())
 }
 
-/// The commands of the program: those that its help lists, and those for CSV files.
-fn all_commands(alloc: Global, own: &str) -> Result<Vec<&str>, AllocError> {
-    let mut commands = commands_of(alloc, own)?;
-    commands.push("encode")?;
-    commands.push("decode")?;
-    Ok(commands)
-}
-
 /// The help of each command.
 fn helps_of(
     rt: &HostRuntime,
@@ -136,7 +128,7 @@ fn helps_of(
     own: &str,
 ) -> io::Result<Vec<String>> {
     let mut helps = Vec::new(rt.alloc());
-    for command in all_commands(rt.alloc(), own)? {
+    for command in commands_of(rt.alloc(), own)? {
         let help = help_of(rt, threads, &["loom", "help", command])?;
         helps.push(help)?;
     }
@@ -153,7 +145,7 @@ fn is_listed(
 ) -> io::Result<bool> {
     let alloc = rt.alloc();
     let mut help = Vec::new(alloc);
-    for (command, text) in all_commands(alloc, own)?.into_iter().zip(helps) {
+    for (command, text) in commands_of(alloc, own)?.into_iter().zip(helps) {
         let options = options_of(alloc, text.as_str())?;
         help.push(Listed { command, options })?;
     }

@@ -52,7 +52,7 @@ fn answer_words<'a>(
     answer(threads, alloc, disk, words, streams, transcripts)
 }
 
-/// Answers a line of `encode` or `decode` over the system's files and streams.
+/// Answers a line of `encode`, `decode` or `kinds` over the system's files and streams.
 fn answer_tables_here(rt: &HostRuntime, words: &[&str]) -> u8 {
     let disk = Disk::new(rt);
     let drafts = DiskDrafts::new(rt, rt.alloc());
