@@ -325,11 +325,7 @@ pub fn line_command<'a>(alloc: Global) -> Result<Command<'a>, AllocError>
         .subcommand(sql_command(alloc)?)?
         .subcommand(replay_command(alloc)?)?
         .subcommand(explain_command(alloc)?)?
-        .subcommand(named(
-            alloc,
-            "encode",
-            "Write CSV files as an input, by a schema",
-        ))?
+        .subcommand(named(alloc, "encode", "Write CSV files as an input, by a schema"))?
         .subcommand(named(
             alloc,
             "decode",
