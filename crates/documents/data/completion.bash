@@ -25,7 +25,6 @@ _loom() {
         sql) words="--wrapped --dialect --output --explain --inline --help" ;;
         encode) words="--dictionary --help" ;;
         decode) words="--dictionary --output --help" ;;
-        kinds) words="--help" ;;
         esac
     else
         compopt -o filenames 2>/dev/null

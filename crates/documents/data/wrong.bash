@@ -9,4 +9,3 @@
         sql) words="--wrapped --dialect --output --explain --inline --help" ;;
         encode) words="--dictionary --help" ;;
         decode) words="--dictionary --output --help" ;;
-        kinds) words="--help" ;;
