@@ -72,7 +72,11 @@ struct Printed {
 }
 
 /// What the program prints that is called with these words of `encode`, `decode` or `kinds`.
-fn tables_print(rt: &HostRuntime, piped: Option<&[u8]>, words: &[&str]) -> io::Result<Printed> {
+fn tables_print<'a>(
+    rt: &'a HostRuntime,
+    piped: Option<&'a [u8]>,
+    words: &'a [&'a str],
+) -> io::Result<Printed> {
     let page = Page {
         disk: Disk::new(rt),
         piped,
