@@ -5,15 +5,15 @@ use Rattle.semantics.specs.Multiset.{Record}
 use Rattle.semantics.specs.Graph.{Graph, in_port, target, vertex}
 use Rattle.semantics.specs.Could.{Pointstamp}
 use Rattle.semantics.specs.Kinds.{Kind, Role, role}
-use Rattle.semantics.specs.Op.{op}
-use Rattle.semantics.specs.Shard.{Absorbed, SendsBy, absorbed_by}
+use Rattle.semantics.specs.Op.{op, reads}
+use Rattle.semantics.specs.Shard.{Absorbed, SendsAtNotification, SendsBy, absorbed_by}
 use Rattle.semantics.specs.Time.{Time}
 use Rattle.graph.specs.Shown.{shown_graph}
 use Rattle.machine.specs.World.{Event, World}
 use Rattle.machine.specs.Processing.{event_time, event_vertex}
 use Rattle.rows.specs.Counts.{IsOver}
 use Rattle.vertices.specs.Kept.{kept_by}
-use Rattle.vertices.specs.Outs.{GoesOver}
+use Rattle.vertices.specs.Outs.{GoesOver, WouldNotifyOver}
 use Rattle.vertices.specs.Shards.{shard_kind}
 use Rattle.vertices.specs.declared.shard.Shard.{Shard}
 use Rattle.tokens.specs.declared.rule.Place.{Place}
@@ -28,7 +28,7 @@ use Rattle.board.specs.Shown.{Shown, Side, event_at, net, side_at, side_in}
 use Rattle.board.specs.Showing.{AgreeAt, OnShard, Shows, ShowsIn, known}
 use Rattle.board.proofs.Committing.{agrees, was}
 use Rattle.board.proofs.Facts.{net_of, own, wired_here}
-use Rattle.board.proofs.Still.{absorbed_same}
+use Rattle.board.proofs.Still.{absorbed_same, read_same}
 
 -- a worker that has an event out is there
 pub out_within : (xs : List Side) (k : ℕ) (j : Job) → (side_in xs k).place ≡ Out j → k < length xs
@@ -54,29 +54,36 @@ over_same kind t a b port records same (inr h) =
     let Second : (ℕ → List Record) → Type 0 = λ f. SendsBy (role kind) (λ q ins. op kind t ins q) (λ p. b p t) f port records h.0 in
     inr (h.0, subst Second now (subst First before h.1), h.2, h.3)
 
+notified_same : (kind : Kind) (t : Time) (a b : Absorbed) → ((p : ℕ) → reads kind a t p ≡ reads kind b t p) → WouldNotifyOver kind t a → WouldNotifyOver kind t b
+notified_same kind t a b same (would, said, q, over) = (would, subst (λ f. SendsAtNotification (λ q ins. op kind t ins q) f would) (fun_ext same) said, q, over)
+
 to_world : (s : Shown) (w : World) (k : ℕ) (shard : Shard) (e : Event) (a : Absorbed) → shard_kind shard ≡ (vertex (shown_graph s.graph) (event_at (shown_graph s.graph) e)).kind
-    → ((p : ℕ) → a p (event_time e) ≡ w.absorbed k (event_vertex (net s) e) p (event_time e)) → IsOverAt (shown_graph s.graph) shard e a → Overflows (shown_graph s.graph) w k e
+    → AgreeAt (net s) (event_vertex (net s) e) a (w.absorbed k (event_vertex (net s) e)) (event_time e) → IsOverAt (shown_graph s.graph) shard e a → Overflows (shown_graph s.graph) w k e
 to_world s w k shard (Event.arrival m) a kind same h =
     let g : Graph = shown_graph s.graph in
     subst (λ (x : Kind). GoesOver x m.time (w.absorbed k (target g m.edge)) (in_port g m.edge) m.records) kind
-    (over_same (shard_kind shard) m.time a (w.absorbed k (target g m.edge)) (in_port g m.edge) m.records same h)
-to_world s w k shard (Event.notification n) a kind same h = absurd h
+    (over_same (shard_kind shard) m.time a (w.absorbed k (target g m.edge)) (in_port g m.edge) m.records same.here h)
+to_world s w k shard (Event.notification n) a kind same h =
+    let x : Kind = (vertex (shown_graph s.graph) n.vertex).kind in
+    notified_same x n.time a (w.absorbed k n.vertex) (read_same x a (w.absorbed k n.vertex) n.time same.here same.back) (subst (λ (x : Kind). WouldNotifyOver x n.time a) kind h)
 
 from_world : (s : Shown) (w : World) (k : ℕ) (shard : Shard) (e : Event) (a : Absorbed) → shard_kind shard ≡ (vertex (shown_graph s.graph) (event_at (shown_graph s.graph) e)).kind
-    → ((p : ℕ) → a p (event_time e) ≡ w.absorbed k (event_vertex (net s) e) p (event_time e)) → Overflows (shown_graph s.graph) w k e → IsOverAt (shown_graph s.graph) shard e a
+    → AgreeAt (net s) (event_vertex (net s) e) a (w.absorbed k (event_vertex (net s) e)) (event_time e) → Overflows (shown_graph s.graph) w k e → IsOverAt (shown_graph s.graph) shard e a
 from_world s w k shard (Event.arrival m) a kind same h =
     let g : Graph = shown_graph s.graph in
-    over_same (shard_kind shard) m.time (w.absorbed k (target g m.edge)) a (in_port g m.edge) m.records (λ p. sym (same p))
+    over_same (shard_kind shard) m.time (w.absorbed k (target g m.edge)) a (in_port g m.edge) m.records (λ p. sym (same.here p))
     (subst (λ (x : Kind). GoesOver x m.time (w.absorbed k (target g m.edge)) (in_port g m.edge) m.records) (sym kind) h)
-from_world s w k shard (Event.notification n) a kind same h = absurd h
+from_world s w k shard (Event.notification n) a kind same h =
+    let x : Kind = (vertex (shown_graph s.graph) n.vertex).kind in
+    subst (λ (x : Kind). WouldNotifyOver x n.time a) (sym kind) (notified_same x n.time (w.absorbed k n.vertex) a (λ p. sym (read_same x a (w.absorbed k n.vertex) n.time same.here same.back p)) h)
 
 module _ (graph : Graph) (content : Pointstamp → ℕ) (s : Shown) (kept : IsKept graph content s) (w : World) (is : Shows s w) (k : ℕ) (there : k < length s.sides) (j : Job)
     (out : (side_at s k).place ≡ Out j) where
   showed : ShowsIn (net s) w k (event_vertex (net s) j.happening) j.before
   showed = was (net s) s (net_of graph content s kept) w is k there j out (own graph content s kept k there j out)
 
-  same : (p : ℕ) → showed.kept p (event_time j.happening) ≡ w.absorbed k (event_vertex (net s) j.happening) p (event_time j.happening)
-  same = (agrees (net s) s (net_of graph content s kept) w is k there j out showed).here
+  same : AgreeAt (net s) (event_vertex (net s) j.happening) showed.kept (w.absorbed k (event_vertex (net s) j.happening)) (event_time j.happening)
+  same = agrees (net s) s (net_of graph content s kept) w is k there j out showed
 
   kind_is : shard_kind j.before ≡ (vertex (shown_graph s.graph) (event_at (shown_graph s.graph) j.happening)).kind
   kind_is =

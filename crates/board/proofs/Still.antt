@@ -1,11 +1,11 @@
 -- What a shard shows of the times that can still come: a step lets no other time come, and an event at a time asks only for what came then.
-use Rattle.std.proofs.Common.{◌≡◌, ℕ, zero, suc, ◌==◌, Bool, true, false, cond, List, [], ◌∷◌, ◌++◌, length, sym, ap, ◌∙◌, subst, Option, Some, None, refl}
+use Rattle.std.proofs.Common.{◌≡◌, ℕ, ◌-◌, ◌==◌, nat_lt, Bool, true, false, cond, List, [], ◌∷◌, ◌++◌, length, sym, ap, ◌∙◌, subst, Option, Some, None, refl}
 use Rattle.std.specs.List.{AllByRecursion, flat_map}
 use mathlib.Core.Path.{fun_ext}
 use Rattle.semantics.specs.Graph.{Graph, vertex}
-use Rattle.semantics.specs.Kinds.{Role, looks_back}
+use Rattle.semantics.specs.Kinds.{Kind, Role, in_ports, looks_back}
 use Rattle.semantics.specs.Multiset.{Record, end_to_end}
-use Rattle.semantics.specs.Op.{reads_if}
+use Rattle.semantics.specs.Op.{reads, reads_back, reads_if}
 use Rattle.semantics.specs.Shard.{Absorbed, absorbed_by, SendsBy, SendsAtNotification, asks}
 use Rattle.semantics.specs.Time.{Time, same_time, earlier_turns}
 use Rattle.graph.specs.Shown.{shown_graph}
@@ -52,20 +52,26 @@ all_same : (P Q : Time → Type 0) → ((u : Time) → P u → Q u) → (us : Li
 all_same P Q f [] h = h
 all_same P Q f (u ∷ us) h = (f u h.0, all_same P Q f us h.1)
 
-turns_same : (a b : Absorbed) (us : List Time) → AllByRecursion (λ u. (p : ℕ) → a p u ≡ b p u) us → flat_map (a 0) us ≡ flat_map (b 0) us
-turns_same a b [] h = refl
-turns_same a b (u ∷ us) h = λ i. h.0 0 i ++ turns_same a b us h.1 i
+-- what is read at a time is the same, if the same came then and in the times that are looked back at
+pub read_same : (kind : Kind) (a b : Absorbed) (t : Time) → ((p : ℕ) → a p t ≡ b p t) → AllByRecursion (λ u. (p : ℕ) → a p u ≡ b p u) (reads_back kind t) → (place : ℕ) → reads kind a t place ≡ reads kind b t place
+read_same kind a b t here back place = go (looks_back kind) back
+  where
+    earlier : (port : ℕ) (us : List Time) → AllByRecursion (λ u. (p : ℕ) → a p u ≡ b p u) us → flat_map (a port) us ≡ flat_map (b port) us
+    earlier port [] h = refl
+    earlier port (u ∷ us) h = λ i. h.0 port i ++ earlier port us h.1 i
 
-read_same : (back : Bool) (a b : Absorbed) (t : Time) → ((p : ℕ) → a p t ≡ b p t) → AllByRecursion (λ u. (p : ℕ) → a p u ≡ b p u) (cond back (earlier_turns t) [])
-    → (place : ℕ) → reads_if back a t place ≡ reads_if back b t place
-read_same false a b t here others place = here place
-read_same true a b t here others zero = here 0
-read_same true a b t here others (suc place) = turns_same a b (earlier_turns t) others
+    go : (l : Bool) → AllByRecursion (λ u. (p : ℕ) → a p u ≡ b p u) (cond l (earlier_turns t) []) → reads_if l (in_ports kind) a t place ≡ reads_if l (in_ports kind) b t place
+    go false h = here place
+    go true h = by (nat_lt place (in_ports kind))
+      where
+        by : (c : Bool) → cond c (a place t) (flat_map (a (in_ports kind - 1)) (earlier_turns t)) ≡ cond c (b place t) (flat_map (b (in_ports kind - 1)) (earlier_turns t))
+        by true = here place
+        by false = earlier (in_ports kind - 1) (earlier_turns t) h
 
 -- where two agree, the same is read
 pub reads_same : (G : Graph) (workers : ℕ) (v : ℕ) (a b : Absorbed) (t : Time) → AgreeAt (network G workers) v a b t
     → (place : ℕ) → (network G workers).reads v a t place ≡ (network G workers).reads v b t place
-reads_same G workers v a b t agree place = read_same (looks_back (vertex G v).kind) a b t agree.here agree.back place
+reads_same G workers v a b t agree place = read_same (vertex G v).kind a b t agree.here agree.back place
 
 -- ---- an event
 

@@ -10,7 +10,7 @@ use Rattle.machine.specs.World.{Event, Message}
 use Rattle.machine.proofs.Counting.{count-append}
 use Rattle.rows.specs.Counts.{AllFit, IsOver}
 use Rattle.vertices.specs.Kept.{kept_by}
-use Rattle.vertices.specs.Outs.{SendsFor, WouldSendOver, sent}
+use Rattle.vertices.specs.Outs.{SendsFor, SendsForNotification, WouldNotifyOver, WouldSendOver, sent}
 use Rattle.vertices.specs.Shards.{shard_kind}
 use Rattle.vertices.specs.declared.out.Out.{Out}
 use Rattle.vertices.specs.declared.shard.Shard.{Shard}
@@ -65,6 +65,10 @@ module _ (g : Graph) (m : Message) (shard : Shard) (batch : List Record) (e : ba
   pub taken_over : IsOver (kept_by (role (shard_kind shard)) a (in_port g m.edge) m.time batch) ⊎ WouldSendOver (shard_kind shard) m.time a (in_port g m.edge) batch → IsOverAt g shard (Event.arrival m) a
   taken_over (inl over) = inl (kept_over_same (role (shard_kind shard)) a (in_port g m.edge) m.time batch m.records e over)
   taken_over (inr over) = inr (would_send_over_same (shard_kind shard) m.time a (in_port g m.edge) batch m.records e over)
+
+-- what a shard sends at a notification fits, if it sends it
+pub notified_fits : (shard : Shard) (t : Time) (a : Absorbed) (o : Out) → ((q : ℕ) → AllFit (sent (out_ports (shard_kind shard)) o q)) → SendsForNotification (shard_kind shard) t a o → WouldNotifyOver (shard_kind shard) t a → ⊥
+notified_fits shard t a o fits sends (would, said, q, over) = fits_not_over _ (fits q) (over_same (would q) (sent (out_ports (shard_kind shard)) o q) (≈-trans (said q) (≈-sym (sends q))) over)
 
 -- an output absorbs nothing and sends nothing
 pub output_fits : (g : Graph) (m : Message) (shard : Shard) (a : Absorbed) → shard_kind shard ≡ Kind.output → IsOverAt g shard (Event.arrival m) a → ⊥

@@ -52,6 +52,7 @@ one_fit (Kind.select ss) ins out = hlevel (ℕ_set, AllByRecursion-prop (ScalarF
 one_fit (Kind.filter c) ins out = hlevel (ℕ_set, one_cond (ins 0) c)
 one_fit Kind.concat ins out = hlevel ℕ_set
 one_fit (Kind.join ps) ins out = hlevel (ℕ_set, AllByRecursion-prop (λ (x : Pair). (x.left < ins 0) × (x.right < ins 1)) (one_pair (ins 0) (ins 1)) ps)
+one_fit (Kind.lookup ps) ins out = hlevel (ℕ_set, AllByRecursion-prop (λ (x : Pair). (x.left < ins 0) × (x.right < ins 1)) (one_pair (ins 0) (ins 1)) ps)
 one_fit (Kind.group ks as') ins out = hlevel (ℕ_set, AllByRecursion-prop (λ k. k < ins 0) (λ k a b. le_prop a b) ks, AllByRecursion-prop (AggFits (ins 0)) (one_agg (ins 0)) as')
 one_fit Kind.distinct ins out = hlevel ℕ_set
 one_fit Kind.except ins out = hlevel ℕ_set

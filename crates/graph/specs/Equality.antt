@@ -57,6 +57,7 @@ kind_eq (Kind.select ss) (Kind.select ts) = pointwise scalar_eq ss ts
 kind_eq (Kind.filter c) (Kind.filter d) = cond_eq c d
 kind_eq Kind.concat Kind.concat = true
 kind_eq (Kind.join ps) (Kind.join qs) = pointwise pair_eq ps qs
+kind_eq (Kind.lookup ps) (Kind.lookup qs) = pointwise pair_eq ps qs
 kind_eq (Kind.group ks gs) (Kind.group ls hs) = pointwise nat_eq ks ls && pointwise agg_eq gs hs
 kind_eq Kind.distinct Kind.distinct = true
 kind_eq Kind.except Kind.except = true

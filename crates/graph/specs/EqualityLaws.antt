@@ -77,6 +77,7 @@ kind_decides (Kind.select ss) (Kind.select ts) = Decides-like _ (λ e. ap Kind.s
 kind_decides (Kind.filter c) (Kind.filter d) = Decides-like _ (λ e. ap Kind.filter e) (λ e. cc) (cond_decides c d)
 kind_decides Kind.concat Kind.concat = (λ e. refl, λ e. refl)
 kind_decides (Kind.join ps) (Kind.join qs) = Decides-like _ (λ e. ap Kind.join e) (λ e. cc) (pointwise_decides pair_decides ps qs)
+kind_decides (Kind.lookup ps) (Kind.lookup qs) = Decides-like _ (λ e. ap Kind.lookup e) (λ e. cc) (pointwise_decides pair_decides ps qs)
 kind_decides (Kind.group ks gs) (Kind.group ls hs) = Decides-like _ (λ h. ap₂ Kind.group h.0 h.1) (λ e. (cc, cc)) (Decides-and _ _ (pointwise_decides Decides-eqb ks ls) (pointwise_decides agg_decides gs hs))
 kind_decides Kind.distinct Kind.distinct = (λ e. refl, λ e. refl)
 kind_decides Kind.except Kind.except = (λ e. refl, λ e. refl)

@@ -8,7 +8,7 @@ use Rattle.semantics.specs.Multiset.{Record}
 use Rattle.expr_tree.specs.Views.{scalar_tree, cond_tree}
 use Rattle.expr_tree.specs.Plain.{plain_scalar, plain_cond, plain_pair, plain_agg}
 use Rattle.graph.specs.declared.vertex.Kind.{Kind}
-use Rattle.graph.specs.declared.vertex.Kind.TheVariants.{Input, Output, Select, Where, Concat, Join, Group, Distinct, Except, Intersect}
+use Rattle.graph.specs.declared.vertex.Kind.TheVariants.{Input, Output, Select, Where, Concat, Join, Lookup, Group, Distinct, Except, Intersect}
 use Rattle.graph.specs.declared.vertex.Kind.TheVariants.{Ingress, Egress, Feedback, Gate, Unseen, Hold}
 use Rattle.graph.specs.declared.vertex.Port.{Port}
 use Rattle.graph.specs.declared.vertex.Sources.{Sources}
@@ -29,6 +29,7 @@ kind_of (Select ss) = semantics.Kind.select (map plain_scalar (map scalar_tree s
 kind_of (Where c) = semantics.Kind.filter (plain_cond (cond_tree c.value))
 kind_of Concat = semantics.Kind.concat
 kind_of (Join ps) = semantics.Kind.join (map plain_pair ps.items)
+kind_of (Lookup ps) = semantics.Kind.lookup (map plain_pair ps.items)
 kind_of (Group ks gs) = semantics.Kind.group (map (λ k. k.index) ks.items) (map plain_agg gs.items)
 kind_of Distinct = semantics.Kind.distinct
 kind_of Except = semantics.Kind.except

@@ -67,6 +67,7 @@ impl PartialEq for Kind {
             (Kind::Where(c), Kind::Where(d)) => equal_conds(c, d),
             (Kind::Concat, Kind::Concat) => true,
             (Kind::Join(ps), Kind::Join(qs)) => equal_pairs(ps, qs),
+            (Kind::Lookup(ps), Kind::Lookup(qs)) => equal_pairs(ps, qs),
             (Kind::Group(ks, gs), Kind::Group(ls, hs)) => {
                 equal_columns(ks, ls) && equal_aggs(gs, hs)
             }

@@ -42,7 +42,7 @@ impl Kind {
     {
         match self {
             Kind::Input => 0,
-            Kind::Concat | Kind::Join(_) | Kind::Except | Kind::Intersect => 2,
+            Kind::Concat | Kind::Join(_) | Kind::Lookup(_) | Kind::Except | Kind::Intersect => 2,
             Kind::Output
             | Kind::Select(_)
             | Kind::Where(_)
@@ -69,6 +69,7 @@ impl Kind {
             | Kind::Where(_)
             | Kind::Concat
             | Kind::Join(_)
+            | Kind::Lookup(_)
             | Kind::Group(_, _)
             | Kind::Distinct
             | Kind::Except
@@ -93,6 +94,7 @@ impl Kind {
             | Kind::Where(_)
             | Kind::Concat
             | Kind::Join(_)
+            | Kind::Lookup(_)
             | Kind::Group(_, _)
             | Kind::Distinct
             | Kind::Except
@@ -108,7 +110,7 @@ impl Kind {
         ensures { key_of result ≡ route_key (kind_of self.now) in_port }
     {
         match self {
-            Kind::Join(pairs) => {
+            Kind::Join(pairs) | Kind::Lookup(pairs) => {
                 if in_port == 0 {
                     RouteKey::Left(pairs.as_slice())
                 } else {
@@ -138,7 +140,7 @@ impl Kind {
             Kind::Input => Role::Input,
             Kind::Output => Role::Output,
             Kind::Join(_) | Kind::Distinct | Kind::Intersect => Role::Stateful,
-            Kind::Group(_, _) | Kind::Except | Kind::Unseen(_) => Role::Notified,
+            Kind::Lookup(_) | Kind::Group(_, _) | Kind::Except | Kind::Unseen(_) => Role::Notified,
             Kind::Select(_)
             | Kind::Where(_)
             | Kind::Concat
@@ -150,11 +152,11 @@ impl Kind {
         }
     }
 
-    /// Whether it also reads what came to it in the earlier turns of its loop.
+    /// Whether it also reads what came to its last port in the earlier turns of its loop.
     pub fn looks_back(&self) -> bool
         ensures { result ≡ looks_back (kind_of self.now) }
     {
-        matches!(self, Kind::Unseen(_))
+        matches!(self, Kind::Unseen(_) | Kind::Lookup(_))
     }
 
     /// Whether it is an input.

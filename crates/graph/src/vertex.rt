@@ -14,7 +14,8 @@ pub const MAX_VERTICES: usize = 4096;
 #[derive(Clone, Copy, Debug, PartialEq, Eq)]
 pub struct VertexId(pub u32);
 
-/// What a vertex does with the records that come to it. `Gate`, `Unseen` and `Hold` have the number of turns of their loop.
+/// What a vertex does with the records that come to it. `Gate` and `Unseen` have the number of turns of their loop, and `Hold`
+/// that of the turns for which it holds.
 #[derive(Drop)]
 pub enum Kind {
     Input,
@@ -23,6 +24,7 @@ pub enum Kind {
     Where(Box<Cond<Global>>),
     Concat,
     Join(Vec<Pair>),
+    Lookup(Vec<Pair>),
     Group(Vec<Column>, Vec<Agg>),
     Distinct,
     Except,

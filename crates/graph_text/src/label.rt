@@ -27,6 +27,10 @@ pub fn put_label(text: &mut Vec<u8>, kind: &Kind, name: &[u8]) -> Result<(), NoM
             text.extend_from_slice(b"join(")?;
             put_pairs(text, pairs)?;
         }
+        Kind::Lookup(pairs) => {
+            text.extend_from_slice(b"lookup(")?;
+            put_pairs(text, pairs)?;
+        }
         Kind::Group(keys, aggregates) => {
             text.extend_from_slice(b"group(")?;
             put_columns(text, keys)?;

@@ -109,6 +109,7 @@ pub fn put_kind(text: &mut Vec<u8>, kind: &Kind, name: &[u8]) -> Result<(), NoMe
         Kind::Where(_) => text.extend_from_slice(b"where")?,
         Kind::Concat => text.extend_from_slice(b"concat")?,
         Kind::Join(_) => text.extend_from_slice(b"join")?,
+        Kind::Lookup(_) => text.extend_from_slice(b"lookup")?,
         Kind::Group(_, _) => text.extend_from_slice(b"group")?,
         Kind::Distinct => text.extend_from_slice(b"distinct")?,
         Kind::Except => text.extend_from_slice(b"except")?,

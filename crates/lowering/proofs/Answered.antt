@@ -2,10 +2,10 @@
 use Rattle.std.proofs.Common.{◌≡◌, ℕ, suc, ◌+◌, ◌≤◌, List, [], ◌∷◌, ◌++◌, length, slice_set as set}
 use Rattle.std.specs.Prelude.{Result, Ok, Err, IfOk, IfErr, OnOk}
 use Rattle.semantics.specs.Query.{Loop, Name, Rel}
-use Rattle.semantics.specs.FreeNames.{carried}
+use Rattle.semantics.specs.FreeNames.{carried, once_names}
 use Rattle.semantics.specs.Kinds as semantics
 use Rattle.semantics.specs.Graph as graph
-use Rattle.semantics.specs.Lower.{gate_of, lower, Lowered, Ports, carry, new_vertex, port, then_one, then_two}
+use Rattle.semantics.specs.Lower.{held_turns, gate_of, lower, Lowered, Ports, carry, new_vertex, port, then_one, then_two}
 use Rattle.graph.specs.Limits.{max_vertices}
 use Rattle.graph.specs.Views.{graph_of, port_of}
 use Rattle.lowering.specs.Faults.{IsTooMany, IsOver}
@@ -38,21 +38,21 @@ pub two_many : (r : Result Port LowerFault) (m0 m1 m2 : List Vertex) (a b : grap
 two_many (Ok p) m0 m1 m2 a b l s kind d i j o = tt
 two_many (Err f) m0 m1 m2 a b l s kind d i j o = full_two f m0 m1 m2 a b l s kind d i j o
 
-pub loop_ok : (res : Result Port LowerFault) (sort : Loop) (n : ℕ) (x : Name) (r b : Rel) (ports inside : Ports) (d e : ℕ) (m0 m1 m2 m3 m4 : List Vertex) (from back : graph.Port) (con : graph.Vertex)
-    → IsLowered (graph_of m0) (graph_of m1) from (lower r ports d (length m0))
-    → graph_of m2 ≡ graph_of m1 ++ (new_vertex semantics.Kind.ingress d (from ∷ []) ∷ con ∷ new_vertex (gate_of sort n) (suc d) (port (suc (length m1)) 0 ∷ []) ∷ carry n ports d (suc (suc (suc (length m1)))) (carried x b))
+pub loop_ok : (res : Result Port LowerFault) (sort : Loop) (n : ℕ) (x : Name) (r b : Rel) (ports inside : Ports) (once : List Name) (d e : ℕ) (m0 m1 m2 m3 m4 : List Vertex) (from back : graph.Port) (con : graph.Vertex)
+    → IsLowered (graph_of m0) (graph_of m1) from (lower r ports once d (length m0))
+    → graph_of m2 ≡ graph_of m1 ++ (new_vertex semantics.Kind.ingress d (from ∷ []) ∷ con ∷ new_vertex (gate_of sort n) (suc d) (port (suc (length m1)) 0 ∷ []) ∷ carry (held_turns n (once_names sort x b)) ports d (suc (suc (suc (length m1)))) (carried x b))
     → inside ≡ inside_of ports x (length m1) (carried x b)
     → e ≡ suc d
-    → IsLowered (graph_of m2) (graph_of m3) back (lower b inside e (length m2))
+    → IsLowered (graph_of m2) (graph_of m3) back (lower b inside (once_names sort x b) e (length m2))
     → OnOk res (graph_of m4 ≡ set (graph_of m3) (suc (length m1)) (new_vertex semantics.Kind.concat (suc d) (port (length m1) 0 ∷ port (length m3) 0 ∷ [])) ++ (new_vertex semantics.Kind.feedback (suc d) (back ∷ []) ∷ new_vertex semantics.Kind.egress (suc d) (port (suc (suc (length m1))) 1 ∷ []) ∷ []))
     → IfOk res (λ p. port_of p ≡ port (suc (length m3)) 0)
-    → IfOk res (λ p. IsLowered (graph_of m0) (graph_of m4) (port_of p) (lower (Rel.loop sort n x r b) ports d (length m0)))
-loop_ok (Ok p) sort n x r b ports inside d e m0 m1 m2 m3 m4 from back con i o s q j c g = loop_lowered sort n x r b ports inside d e m0 m1 m2 m3 m4 from back (port_of p) con i o s q j c g
-loop_ok (Err f) sort n x r b ports inside d e m0 m1 m2 m3 m4 from back con i o s q j c g = tt
+    → IfOk res (λ p. IsLowered (graph_of m0) (graph_of m4) (port_of p) (lower (Rel.loop sort n x r b) ports once d (length m0)))
+loop_ok (Ok p) sort n x r b ports inside once d e m0 m1 m2 m3 m4 from back con i o s q j c g = loop_lowered sort n x r b ports inside once d e m0 m1 m2 m3 m4 from back (port_of p) con i o s q j c g
+loop_ok (Err f) sort n x r b ports inside once d e m0 m1 m2 m3 m4 from back con i o s q j c g = tt
 
-pub loop_many : (res : Result Port LowerFault) (sort : Loop) (n : ℕ) (x : Name) (r b : Rel) (ports inside : Ports) (d e : ℕ) (m0 m1 m2 m3 : List Vertex) (p back : graph.Port) (u v w : graph.Vertex)
-    → IsLowered (graph_of m0) (graph_of m1) p (lower r ports d (length m0)) → graph_of m2 ≡ graph_of m1 ++ (u ∷ v ∷ w ∷ carry n ports d (suc (suc (suc (length m1)))) (carried x b))
-    → inside ≡ inside_of ports x (length m1) (carried x b) → e ≡ suc d → IsLowered (graph_of m2) (graph_of m3) back (lower b inside e (length m2))
-    → IfErr res (λ f. IsOver f (length m3 + 2)) → IfErr res (λ f. IsOver f (length m0 + length (lower (Rel.loop sort n x r b) ports d (length m0)).made))
-loop_many (Ok y) sort n x r b ports inside d e m0 m1 m2 m3 p back u v w i o s q j g = tt
-loop_many (Err f) sort n x r b ports inside d e m0 m1 m2 m3 p back u v w i o s q j g = over_close f sort n x r b ports inside d e m0 m1 m2 m3 p back u v w i o s q j g
+pub loop_many : (res : Result Port LowerFault) (sort : Loop) (n : ℕ) (x : Name) (r b : Rel) (ports inside : Ports) (once : List Name) (d e : ℕ) (m0 m1 m2 m3 : List Vertex) (p back : graph.Port) (u v w : graph.Vertex)
+    → IsLowered (graph_of m0) (graph_of m1) p (lower r ports once d (length m0)) → graph_of m2 ≡ graph_of m1 ++ (u ∷ v ∷ w ∷ carry (held_turns n (once_names sort x b)) ports d (suc (suc (suc (length m1)))) (carried x b))
+    → inside ≡ inside_of ports x (length m1) (carried x b) → e ≡ suc d → IsLowered (graph_of m2) (graph_of m3) back (lower b inside (once_names sort x b) e (length m2))
+    → IfErr res (λ f. IsOver f (length m3 + 2)) → IfErr res (λ f. IsOver f (length m0 + length (lower (Rel.loop sort n x r b) ports once d (length m0)).made))
+loop_many (Ok y) sort n x r b ports inside once d e m0 m1 m2 m3 p back u v w i o s q j g = tt
+loop_many (Err f) sort n x r b ports inside once d e m0 m1 m2 m3 p back u v w i o s q j g = over_close f sort n x r b ports inside once d e m0 m1 m2 m3 p back u v w i o s q j g

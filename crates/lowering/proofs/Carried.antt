@@ -14,31 +14,31 @@ use Rattle.lowering.specs.declared.fault.LowerFault.{LowerFault}
 use Rattle.lowering.proofs.MoreVertices.{number_of}
 
 -- four for each name
-pub length-carry : (n : ℕ) (ports : Ports) (d k : ℕ) (ys : List Name) → length (carry n ports d k ys) ≡ 4 * length ys
+pub length-carry : (n : Name → ℕ) (ports : Ports) (d k : ℕ) (ys : List Name) → length (carry n ports d k ys) ≡ 4 * length ys
 length-carry n ports d k [] = omega arith
 length-carry n ports d k (y ∷ ys) = omega (arith, length-carry n ports d (suc (suc (suc (suc k)))) ys)
 
-carry-push : (n : ℕ) (ports : Ports) (d k : ℕ) (ys : List Name) (y : Name) → carry n ports d k (ys ++ y ∷ []) ≡ carry n ports d k ys ++ carry_one n (ports y) d (k + 4 * length ys)
+carry-push : (n : Name → ℕ) (ports : Ports) (d k : ℕ) (ys : List Name) (y : Name) → carry n ports d k (ys ++ y ∷ []) ≡ carry n ports d k ys ++ carry_one (n y) (ports y) d (k + 4 * length ys)
 carry-push n ports d k [] y =
     let same : k ≡ k + 4 * 0 = omega arith in
-    ap (carry_one n (ports y) d) same
+    ap (carry_one (n y) (ports y) d) same
 carry-push n ports d k (x ∷ ys) y =
     let same : suc (suc (suc (suc k))) + 4 * length ys ≡ k + 4 * length (x ∷ ys) = omega arith in
-    ap (λ l. carry_one n (ports x) d k ++ l) (carry-push n ports d (suc (suc (suc (suc k)))) ys y ∙ ap (λ j. carry n ports d (suc (suc (suc (suc k)))) ys ++ carry_one n (ports y) d j) same)
+    ap (λ l. carry_one (n x) (ports x) d k ++ l) (carry-push n ports d (suc (suc (suc (suc k)))) ys y ∙ ap (λ j. carry n ports d (suc (suc (suc (suc k)))) ys ++ carry_one (n y) (ports y) d j) same)
 
 -- the vertices of one name more
-pub one-carried : (n : ℕ) (ports : Ports) (d : ℕ) (names : List Name) (i : ℕ) (y : Name) (p : graph.Port) (m0 m1 m2 : List Vertex) → i < length names → y ≡ get_or names i y → p ≡ ports y → graph_of m1 ≡ graph_of m0 ++ carry n ports d (length m0) (take i names) → length (take i names) ≡ i → graph_of m2 ≡ graph_of m1 ++ carry_one n p d (length m1) → graph_of m2 ≡ graph_of m0 ++ carry n ports d (length m0) (take (i + 1) names)
-one-carried n ports d names i y p m0 m1 m2 within is found before taken after =
+pub one-carried : (n : Name → ℕ) (ports : Ports) (d : ℕ) (names : List Name) (i : ℕ) (y : Name) (t : ℕ) (p : graph.Port) (m0 m1 m2 : List Vertex) → i < length names → y ≡ get_or names i y → t ≡ n y → p ≡ ports y → graph_of m1 ≡ graph_of m0 ++ carry n ports d (length m0) (take i names) → length (take i names) ≡ i → graph_of m2 ≡ graph_of m1 ++ carry_one t p d (length m1) → graph_of m2 ≡ graph_of m0 ++ carry n ports d (length m0) (take (i + 1) names)
+one-carried n ports d names i y t p m0 m1 m2 within is held found before taken after =
     let k = number_of m0 m1 _ before in
     let long = length-carry n ports d (length m0) (take i names) in
     let at : length m1 ≡ length m0 + 4 * length (take i names) = omega (arith, k, long) in
     let more : take (i + 1) names ≡ take i names ++ y ∷ [] = take_more names i y within ∙ ap (λ z. take i names ++ z ∷ []) (sym is) in
-    after ∙ ap₂ (λ g l. g ++ l) before (ap₂ (λ q j. carry_one n q d j) found at)
-    ∙ append_assoc (graph_of m0) (carry n ports d (length m0) (take i names)) (carry_one n (ports y) d (length m0 + 4 * length (take i names)))
+    after ∙ ap (λ u. graph_of m1 ++ carry_one u p d (length m1)) held ∙ ap₂ (λ g l. g ++ l) before (ap₂ (λ q j. carry_one (n y) q d j) found at)
+    ∙ append_assoc (graph_of m0) (carry n ports d (length m0) (take i names)) (carry_one (n y) (ports y) d (length m0 + 4 * length (take i names)))
     ∙ ap (λ l. graph_of m0 ++ l) (sym (carry-push n ports d (length m0) (take i names) y) ∙ sym (ap (carry n ports d (length m0)) more))
 
 -- too many already for one name more
-pub one-carried-over : (n : ℕ) (ports : Ports) (d : ℕ) (names : List Name) (i : ℕ) (f : LowerFault) (m0 m1 : List Vertex) → i < length names → length (take i names) ≡ i → graph_of m1 ≡ graph_of m0 ++ carry n ports d (length m0) (take i names) → IsOver f (length m1 + 4) → IsOver f (length m0 + length (carry n ports d (length m0) names))
+pub one-carried-over : (n : Name → ℕ) (ports : Ports) (d : ℕ) (names : List Name) (i : ℕ) (f : LowerFault) (m0 m1 : List Vertex) → i < length names → length (take i names) ≡ i → graph_of m1 ≡ graph_of m0 ++ carry n ports d (length m0) (take i names) → IsOver f (length m1 + 4) → IsOver f (length m0 + length (carry n ports d (length m0) names))
 one-carried-over n ports d names i f m0 m1 within taken before o =
     let k = number_of m0 m1 _ before in
     let part = length-carry n ports d (length m0) (take i names) in

@@ -3,8 +3,8 @@ use Rattle.std.proofs.Common.{◌≡◌, ℕ, suc, ◌+◌, ◌<◌, ◌≤◌, 
 use Rattle.semantics.specs.Query.{Loop, Name, Rel}
 use Rattle.semantics.specs.Kinds as semantics
 use Rattle.semantics.specs.Graph as graph
-use Rattle.semantics.specs.Lower.{gate_of, lower, Lowered, Ports, new_vertex, port, carry, looped, after_start, then_one, then_two}
-use Rattle.semantics.specs.FreeNames.{carried}
+use Rattle.semantics.specs.Lower.{held_turns, gate_of, lower, Lowered, Ports, new_vertex, port, carry, looped, after_start, then_one, then_two}
+use Rattle.semantics.specs.FreeNames.{carried, once_names}
 use Rattle.graph.specs.Limits.{max_vertices}
 use Rattle.graph.specs.Views.{graph_of}
 use Rattle.lowering.specs.Faults.{IsTooMany, IsOver}
@@ -51,29 +51,29 @@ loop_made m0 m1 m2 m3 m4 S C B T ing con gate v e1 e2 e3 e4 =
     ∙ append_assoc g (ing ∷ v ∷ gate ∷ (C ++ B)) T ∙ ap (λ x. g ++ (ing ∷ v ∷ gate ∷ x)) (append_assoc C B T)
     ∙ ap (λ x. x ++ (ing ∷ v ∷ gate ∷ (C ++ (B ++ T)))) e1 ∙ append_assoc (graph_of m0) S (ing ∷ v ∷ gate ∷ (C ++ (B ++ T)))
 
-pub loop_lowered : (sort : Loop) (n : ℕ) (x : Name) (r b : Rel) (ports inside : Ports) (d e : ℕ) (m0 m1 m2 m3 m4 : List Vertex) (from back out : graph.Port) (con : graph.Vertex)
-    → IsLowered (graph_of m0) (graph_of m1) from (lower r ports d (length m0))
-    → graph_of m2 ≡ graph_of m1 ++ (new_vertex semantics.Kind.ingress d (from ∷ []) ∷ con ∷ new_vertex (gate_of sort n) (suc d) (port (suc (length m1)) 0 ∷ []) ∷ carry n ports d (suc (suc (suc (length m1)))) (carried x b))
+pub loop_lowered : (sort : Loop) (n : ℕ) (x : Name) (r b : Rel) (ports inside : Ports) (once : List Name) (d e : ℕ) (m0 m1 m2 m3 m4 : List Vertex) (from back out : graph.Port) (con : graph.Vertex)
+    → IsLowered (graph_of m0) (graph_of m1) from (lower r ports once d (length m0))
+    → graph_of m2 ≡ graph_of m1 ++ (new_vertex semantics.Kind.ingress d (from ∷ []) ∷ con ∷ new_vertex (gate_of sort n) (suc d) (port (suc (length m1)) 0 ∷ []) ∷ carry (held_turns n (once_names sort x b)) ports d (suc (suc (suc (length m1)))) (carried x b))
     → inside ≡ inside_of ports x (length m1) (carried x b)
     → e ≡ suc d
-    → IsLowered (graph_of m2) (graph_of m3) back (lower b inside e (length m2))
+    → IsLowered (graph_of m2) (graph_of m3) back (lower b inside (once_names sort x b) e (length m2))
     → graph_of m4 ≡ set (graph_of m3) (suc (length m1)) (new_vertex semantics.Kind.concat (suc d) (port (length m1) 0 ∷ port (length m3) 0 ∷ [])) ++ (new_vertex semantics.Kind.feedback (suc d) (back ∷ []) ∷ new_vertex semantics.Kind.egress (suc d) (port (suc (suc (length m1))) 1 ∷ []) ∷ [])
     → out ≡ port (suc (length m3)) 0
-    → IsLowered (graph_of m0) (graph_of m4) out (lower (Rel.loop sort n x r b) ports d (length m0))
+    → IsLowered (graph_of m0) (graph_of m4) out (lower (Rel.loop sort n x r b) ports once d (length m0))
 unfolding lower
-loop_lowered sort n x r b ports inside d e m0 m1 m2 m3 m4 from back out con i o s q j c p =
-    let S = lower r ports d (length m0) in
+loop_lowered sort n x r b ports inside once d e m0 m1 m2 m3 m4 from back out con i o s q j c p =
+    let S = lower r ports once d (length m0) in
     let k = length m0 in
     let j1 = length m1 in
     let ys = carried x b in
-    let C = carry n ports d (suc (suc (suc j1))) ys in
+    let C = carry (held_turns n (once_names sort x b)) ports d (suc (suc (suc j1))) ys in
     let e1 : j1 ≡ k + length S.made = number_of m0 m1 S.made i.made in
-    let body : IsLowered (graph_of m2) (graph_of m3) back (lower b (inside_of ports x j1 ys) (suc d) (length m2)) =
-    subst (λ f. IsLowered (graph_of m2) (graph_of m3) back (lower b f (suc d) (length m2))) s (subst (λ a. IsLowered (graph_of m2) (graph_of m3) back (lower b inside a (length m2))) q j) in
-    let B = lower b (inside_of ports x j1 ys) (suc d) (length m2) in
+    let body : IsLowered (graph_of m2) (graph_of m3) back (lower b (inside_of ports x j1 ys) (once_names sort x b) (suc d) (length m2)) =
+    subst (λ f. IsLowered (graph_of m2) (graph_of m3) back (lower b f (once_names sort x b) (suc d) (length m2))) s (subst (λ a. IsLowered (graph_of m2) (graph_of m3) back (lower b inside (once_names sort x b) a (length m2))) q j) in
+    let B = lower b (inside_of ports x j1 ys) (once_names sort x b) (suc d) (length m2) in
     let n2 : length m2 ≡ suc (suc (suc j1)) + length C = omega (arith, number_of m1 m2 _ o) in
     let n3 : length m3 ≡ suc (suc (suc j1)) + length C + length B.made = omega (arith, n2, number_of m2 m3 B.made body.made) in
-    let base : IsLowered (graph_of m0) (graph_of m4) out (after_start S (looped sort n j1 S ports d ys B)) = record {
+    let base : IsLowered (graph_of m0) (graph_of m4) out (after_start S (looped sort n j1 (once_names sort x b) S ports d ys B)) = record {
       made = loop_made m0 m1 m2 m3 m4 S.made C B.made (new_vertex semantics.Kind.feedback (suc d) (B.gives ∷ []) ∷ new_vertex semantics.Kind.egress (suc d) (port (suc (suc j1)) 1 ∷ []) ∷ []) (new_vertex semantics.Kind.ingress d (S.gives ∷ [])) con (new_vertex (gate_of sort n) (suc d) (port (suc j1) 0 ∷ [])) (new_vertex semantics.Kind.concat (suc d) (port j1 0 ∷ port (suc (suc (suc j1)) + length C + length B.made) 0 ∷ []))
           i.made
           (o ∙ ap (λ w. graph_of m1 ++ (new_vertex semantics.Kind.ingress d (w ∷ []) ∷ con ∷ new_vertex (gate_of sort n) (suc d) (port (suc j1) 0 ∷ []) ∷ C)) i.gives)
@@ -81,8 +81,8 @@ loop_lowered sort n x r b ports inside d e m0 m1 m2 m3 m4 from back out con i o 
           (c ∙ ap₂ (λ z w. set (graph_of m3) (suc j1) (new_vertex semantics.Kind.concat (suc d) (port j1 0 ∷ port z 0 ∷ [])) ++ (new_vertex semantics.Kind.feedback (suc d) (w ∷ []) ∷ new_vertex semantics.Kind.egress (suc d) (port (suc (suc j1)) 1 ∷ []) ∷ [])) n3 body.gives);
       gives = p ∙ ap (λ z. port (suc z) 0) n3;
     } in
-    subst (λ z. IsLowered (graph_of m0) (graph_of m4) out (after_start S (looped sort n z S ports d ys (lower b (inside_of ports x z ys) (suc d) (suc (suc (suc z)) + length (carry n ports d (suc (suc (suc z))) ys)))))) e1
-    (subst (λ z. IsLowered (graph_of m0) (graph_of m4) out (after_start S (looped sort n j1 S ports d ys (lower b (inside_of ports x j1 ys) (suc d) z)))) n2 base)
+    subst (λ z. IsLowered (graph_of m0) (graph_of m4) out (after_start S (looped sort n z (once_names sort x b) S ports d ys (lower b (inside_of ports x z ys) (once_names sort x b) (suc d) (suc (suc (suc z)) + length (carry (held_turns n (once_names sort x b)) ports d (suc (suc (suc z))) ys)))))) e1
+    (subst (λ z. IsLowered (graph_of m0) (graph_of m4) out (after_start S (looped sort n j1 (once_names sort x b) S ports d ys (lower b (inside_of ports x j1 ys) (once_names sort x b) (suc d) z)))) n2 base)
 
 -- ---- where there is no graph
 
@@ -116,59 +116,59 @@ full_two e m0 m1 m2 p q l r kind d i j o =
     subst (λ k. IsOver e (length m0 + length (then_two (length m0) l (r k) kind d).made)) n (full_over e (length m2) _ o (omega (arith, n, number_of m1 m2 (r (length m1)).made j.made, two_length (length m0) l (r (length m1)) kind d)))
 
 -- how many vertices a loop has
-loop_length : (sort : Loop) (n k : ℕ) (S : Lowered) (ports : Ports) (d : ℕ) (ys : List Name) (B : Lowered) → length (after_start S (looped sort n k S ports d ys B)).made ≡ length S.made + (5 + length (carry n ports d (suc (suc (suc k))) ys) + length B.made)
-loop_length sort n k S ports d ys B =
-    let C = carry n ports d (suc (suc (suc k))) ys in
-    omega (arith, length-append S.made (looped sort n k S ports d ys B).made, length-append C (B.made ++ (new_vertex semantics.Kind.feedback (suc d) (B.gives ∷ []) ∷ new_vertex semantics.Kind.egress (suc d) (port (suc (suc k)) 1 ∷ []) ∷ [])), length-append B.made (new_vertex semantics.Kind.feedback (suc d) (B.gives ∷ []) ∷ new_vertex semantics.Kind.egress (suc d) (port (suc (suc k)) 1 ∷ []) ∷ []))
+loop_length : (sort : Loop) (n k : ℕ) (once : List Name) (S : Lowered) (ports : Ports) (d : ℕ) (ys : List Name) (B : Lowered) → length (after_start S (looped sort n k once S ports d ys B)).made ≡ length S.made + (5 + length (carry (held_turns n once) ports d (suc (suc (suc k))) ys) + length B.made)
+loop_length sort n k once S ports d ys B =
+    let C = carry (held_turns n once) ports d (suc (suc (suc k))) ys in
+    omega (arith, length-append S.made (looped sort n k once S ports d ys B).made, length-append C (B.made ++ (new_vertex semantics.Kind.feedback (suc d) (B.gives ∷ []) ∷ new_vertex semantics.Kind.egress (suc d) (port (suc (suc k)) 1 ∷ []) ∷ [])), length-append B.made (new_vertex semantics.Kind.feedback (suc d) (B.gives ∷ []) ∷ new_vertex semantics.Kind.egress (suc d) (port (suc (suc k)) 1 ∷ []) ∷ []))
 
 -- the number of vertices, the loop's first given by its number
-abbrev total : Loop → ℕ → Name → Rel → Rel → Ports → ℕ → ℕ → ℕ → ℕ
-total sort n x r b ports d k z =
-    let S = lower r ports d k in
-    k + length (after_start S (looped sort n z S ports d (carried x b) (lower b (inside_of ports x z (carried x b)) (suc d) (suc (suc (suc z)) + length (carry n ports d (suc (suc (suc z))) (carried x b)))))).made
+abbrev total : Loop → ℕ → Name → Rel → Rel → Ports → List Name → ℕ → ℕ → ℕ → ℕ
+total sort n x r b ports once d k z =
+    let S = lower r ports once d k in
+    k + length (after_start S (looped sort n z (once_names sort x b) S ports d (carried x b) (lower b (inside_of ports x z (carried x b)) (once_names sort x b) (suc d) (suc (suc (suc z)) + length (carry (held_turns n (once_names sort x b)) ports d (suc (suc (suc z))) (carried x b)))))).made
 
-pub over_start : (e : LowerFault) (sort : Loop) (n : ℕ) (x : Name) (r b : Rel) (ports : Ports) (d k : ℕ) → IsOver e (k + length (lower r ports d k).made) → IsOver e (k + length (lower (Rel.loop sort n x r b) ports d k).made)
+pub over_start : (e : LowerFault) (sort : Loop) (n : ℕ) (x : Name) (r b : Rel) (ports : Ports) (once : List Name) (d k : ℕ) → IsOver e (k + length (lower r ports once d k).made) → IsOver e (k + length (lower (Rel.loop sort n x r b) ports once d k).made)
 unfolding lower
-over_start e sort n x r b ports d k o =
-    let S = lower r ports d k in
+over_start e sort n x r b ports once d k o =
+    let S = lower r ports once d k in
     let z = k + length S.made in
-    is_over e _ _ o (omega (arith, loop_length sort n z S ports d (carried x b) (lower b (inside_of ports x z (carried x b)) (suc d) (suc (suc (suc z)) + length (carry n ports d (suc (suc (suc z))) (carried x b))))))
+    is_over e _ _ o (omega (arith, loop_length sort n z (once_names sort x b) S ports d (carried x b) (lower b (inside_of ports x z (carried x b)) (once_names sort x b) (suc d) (suc (suc (suc z)) + length (carry (held_turns n (once_names sort x b)) ports d (suc (suc (suc z))) (carried x b))))))
 
-pub over_open : (e : LowerFault) (sort : Loop) (n : ℕ) (x : Name) (r b : Rel) (ports : Ports) (d : ℕ) (m0 m1 : List Vertex) (p : graph.Port) → IsLowered (graph_of m0) (graph_of m1) p (lower r ports d (length m0)) → IsOver e (length m1 + suc (suc (suc (length (carry n ports d (suc (suc (suc (length m1)))) (carried x b)))))) → IsOver e (length m0 + length (lower (Rel.loop sort n x r b) ports d (length m0)).made)
+pub over_open : (e : LowerFault) (sort : Loop) (n : ℕ) (x : Name) (r b : Rel) (ports : Ports) (once : List Name) (d : ℕ) (m0 m1 : List Vertex) (p : graph.Port) → IsLowered (graph_of m0) (graph_of m1) p (lower r ports once d (length m0)) → IsOver e (length m1 + suc (suc (suc (length (carry (held_turns n (once_names sort x b)) ports d (suc (suc (suc (length m1)))) (carried x b)))))) → IsOver e (length m0 + length (lower (Rel.loop sort n x r b) ports once d (length m0)).made)
 unfolding lower
-over_open e sort n x r b ports d m0 m1 p i o =
-    let S = lower r ports d (length m0) in
+over_open e sort n x r b ports once d m0 m1 p i o =
+    let S = lower r ports once d (length m0) in
     let z = length m1 in
     let h : z ≡ length m0 + length S.made = number_of m0 m1 S.made i.made in
-    subst (λ j. IsOver e (total sort n x r b ports d (length m0) j)) h
-    (is_over e _ _ o (omega (arith, h, loop_length sort n z S ports d (carried x b) (lower b (inside_of ports x z (carried x b)) (suc d) (suc (suc (suc z)) + length (carry n ports d (suc (suc (suc z))) (carried x b)))))))
+    subst (λ j. IsOver e (total sort n x r b ports once d (length m0) j)) h
+    (is_over e _ _ o (omega (arith, h, loop_length sort n z (once_names sort x b) S ports d (carried x b) (lower b (inside_of ports x z (carried x b)) (once_names sort x b) (suc d) (suc (suc (suc z)) + length (carry (held_turns n (once_names sort x b)) ports d (suc (suc (suc z))) (carried x b)))))))
 
-pub over_body : (f : LowerFault) (sort : Loop) (n : ℕ) (x : Name) (r b : Rel) (ports inside : Ports) (d e : ℕ) (m0 m1 m2 : List Vertex) (p : graph.Port) (u v w : graph.Vertex) → IsLowered (graph_of m0) (graph_of m1) p (lower r ports d (length m0)) → graph_of m2 ≡ graph_of m1 ++ (u ∷ v ∷ w ∷ carry n ports d (suc (suc (suc (length m1)))) (carried x b)) → inside ≡ inside_of ports x (length m1) (carried x b) → e ≡ suc d → IsOver f (length m2 + length (lower b inside e (length m2)).made) → IsOver f (length m0 + length (lower (Rel.loop sort n x r b) ports d (length m0)).made)
+pub over_body : (f : LowerFault) (sort : Loop) (n : ℕ) (x : Name) (r b : Rel) (ports inside : Ports) (once : List Name) (d e : ℕ) (m0 m1 m2 : List Vertex) (p : graph.Port) (u v w : graph.Vertex) → IsLowered (graph_of m0) (graph_of m1) p (lower r ports once d (length m0)) → graph_of m2 ≡ graph_of m1 ++ (u ∷ v ∷ w ∷ carry (held_turns n (once_names sort x b)) ports d (suc (suc (suc (length m1)))) (carried x b)) → inside ≡ inside_of ports x (length m1) (carried x b) → e ≡ suc d → IsOver f (length m2 + length (lower b inside (once_names sort x b) e (length m2)).made) → IsOver f (length m0 + length (lower (Rel.loop sort n x r b) ports once d (length m0)).made)
 unfolding lower
-over_body f sort n x r b ports inside d e m0 m1 m2 p u v w i o s q g =
-    let S = lower r ports d (length m0) in
+over_body f sort n x r b ports inside once d e m0 m1 m2 p u v w i o s q g =
+    let S = lower r ports once d (length m0) in
     let z = length m1 in
-    let C = carry n ports d (suc (suc (suc z))) (carried x b) in
-    let h : z ≡ length m0 + length S.made = number_of m0 m1 S.made i.made in
-    let n2 : length m2 ≡ suc (suc (suc z)) + length C = omega (arith, number_of m1 m2 _ o) in
-    let g1 : IsOver f (length m2 + length (lower b (inside_of ports x z (carried x b)) (suc d) (length m2)).made) =
-    subst (λ y. IsOver f (length m2 + length (lower b y (suc d) (length m2)).made)) s (subst (λ a. IsOver f (length m2 + length (lower b inside a (length m2)).made)) q g) in
-    let g2 : IsOver f (suc (suc (suc z)) + length C + length (lower b (inside_of ports x z (carried x b)) (suc d) (suc (suc (suc z)) + length C)).made) =
-    subst (λ a. IsOver f (a + length (lower b (inside_of ports x z (carried x b)) (suc d) a).made)) n2 g1 in
-    subst (λ j. IsOver f (total sort n x r b ports d (length m0) j)) h
-    (is_over f _ _ g2 (omega (arith, h, loop_length sort n z S ports d (carried x b) (lower b (inside_of ports x z (carried x b)) (suc d) (suc (suc (suc z)) + length C)))))
-
-pub over_close : (f : LowerFault) (sort : Loop) (n : ℕ) (x : Name) (r b : Rel) (ports inside : Ports) (d e : ℕ) (m0 m1 m2 m3 : List Vertex) (p back : graph.Port) (u v w : graph.Vertex) → IsLowered (graph_of m0) (graph_of m1) p (lower r ports d (length m0)) → graph_of m2 ≡ graph_of m1 ++ (u ∷ v ∷ w ∷ carry n ports d (suc (suc (suc (length m1)))) (carried x b)) → inside ≡ inside_of ports x (length m1) (carried x b) → e ≡ suc d → IsLowered (graph_of m2) (graph_of m3) back (lower b inside e (length m2)) → IsOver f (length m3 + 2) → IsOver f (length m0 + length (lower (Rel.loop sort n x r b) ports d (length m0)).made)
-unfolding lower
-over_close f sort n x r b ports inside d e m0 m1 m2 m3 p back u v w i o s q j g =
-    let S = lower r ports d (length m0) in
-    let z = length m1 in
-    let C = carry n ports d (suc (suc (suc z))) (carried x b) in
+    let C = carry (held_turns n (once_names sort x b)) ports d (suc (suc (suc z))) (carried x b) in
     let h : z ≡ length m0 + length S.made = number_of m0 m1 S.made i.made in
     let n2 : length m2 ≡ suc (suc (suc z)) + length C = omega (arith, number_of m1 m2 _ o) in
-    let body : IsLowered (graph_of m2) (graph_of m3) back (lower b (inside_of ports x z (carried x b)) (suc d) (length m2)) =
-    subst (λ y. IsLowered (graph_of m2) (graph_of m3) back (lower b y (suc d) (length m2))) s (subst (λ a. IsLowered (graph_of m2) (graph_of m3) back (lower b inside a (length m2))) q j) in
-    let n3 : length m3 ≡ length m2 + length (lower b (inside_of ports x z (carried x b)) (suc d) (length m2)).made = number_of m2 m3 _ body.made in
-    let n4 : length m3 ≡ suc (suc (suc z)) + length C + length (lower b (inside_of ports x z (carried x b)) (suc d) (suc (suc (suc z)) + length C)).made = subst (λ a. length m3 ≡ a + length (lower b (inside_of ports x z (carried x b)) (suc d) a).made) n2 n3 in
-    subst (λ y. IsOver f (total sort n x r b ports d (length m0) y)) h
-    (is_over f _ _ g (omega (arith, h, n4, loop_length sort n z S ports d (carried x b) (lower b (inside_of ports x z (carried x b)) (suc d) (suc (suc (suc z)) + length C)))))
+    let g1 : IsOver f (length m2 + length (lower b (inside_of ports x z (carried x b)) (once_names sort x b) (suc d) (length m2)).made) =
+    subst (λ y. IsOver f (length m2 + length (lower b y (once_names sort x b) (suc d) (length m2)).made)) s (subst (λ a. IsOver f (length m2 + length (lower b inside (once_names sort x b) a (length m2)).made)) q g) in
+    let g2 : IsOver f (suc (suc (suc z)) + length C + length (lower b (inside_of ports x z (carried x b)) (once_names sort x b) (suc d) (suc (suc (suc z)) + length C)).made) =
+    subst (λ a. IsOver f (a + length (lower b (inside_of ports x z (carried x b)) (once_names sort x b) (suc d) a).made)) n2 g1 in
+    subst (λ j. IsOver f (total sort n x r b ports once d (length m0) j)) h
+    (is_over f _ _ g2 (omega (arith, h, loop_length sort n z (once_names sort x b) S ports d (carried x b) (lower b (inside_of ports x z (carried x b)) (once_names sort x b) (suc d) (suc (suc (suc z)) + length C)))))
+
+pub over_close : (f : LowerFault) (sort : Loop) (n : ℕ) (x : Name) (r b : Rel) (ports inside : Ports) (once : List Name) (d e : ℕ) (m0 m1 m2 m3 : List Vertex) (p back : graph.Port) (u v w : graph.Vertex) → IsLowered (graph_of m0) (graph_of m1) p (lower r ports once d (length m0)) → graph_of m2 ≡ graph_of m1 ++ (u ∷ v ∷ w ∷ carry (held_turns n (once_names sort x b)) ports d (suc (suc (suc (length m1)))) (carried x b)) → inside ≡ inside_of ports x (length m1) (carried x b) → e ≡ suc d → IsLowered (graph_of m2) (graph_of m3) back (lower b inside (once_names sort x b) e (length m2)) → IsOver f (length m3 + 2) → IsOver f (length m0 + length (lower (Rel.loop sort n x r b) ports once d (length m0)).made)
+unfolding lower
+over_close f sort n x r b ports inside once d e m0 m1 m2 m3 p back u v w i o s q j g =
+    let S = lower r ports once d (length m0) in
+    let z = length m1 in
+    let C = carry (held_turns n (once_names sort x b)) ports d (suc (suc (suc z))) (carried x b) in
+    let h : z ≡ length m0 + length S.made = number_of m0 m1 S.made i.made in
+    let n2 : length m2 ≡ suc (suc (suc z)) + length C = omega (arith, number_of m1 m2 _ o) in
+    let body : IsLowered (graph_of m2) (graph_of m3) back (lower b (inside_of ports x z (carried x b)) (once_names sort x b) (suc d) (length m2)) =
+    subst (λ y. IsLowered (graph_of m2) (graph_of m3) back (lower b y (once_names sort x b) (suc d) (length m2))) s (subst (λ a. IsLowered (graph_of m2) (graph_of m3) back (lower b inside (once_names sort x b) a (length m2))) q j) in
+    let n3 : length m3 ≡ length m2 + length (lower b (inside_of ports x z (carried x b)) (once_names sort x b) (suc d) (length m2)).made = number_of m2 m3 _ body.made in
+    let n4 : length m3 ≡ suc (suc (suc z)) + length C + length (lower b (inside_of ports x z (carried x b)) (once_names sort x b) (suc d) (suc (suc (suc z)) + length C)).made = subst (λ a. length m3 ≡ a + length (lower b (inside_of ports x z (carried x b)) (once_names sort x b) (suc d) a).made) n2 n3 in
+    subst (λ y. IsOver f (total sort n x r b ports once d (length m0) y)) h
+    (is_over f _ _ g (omega (arith, h, n4, loop_length sort n z (once_names sort x b) S ports d (carried x b) (lower b (inside_of ports x z (carried x b)) (once_names sort x b) (suc d) (suc (suc (suc z)) + length C)))))

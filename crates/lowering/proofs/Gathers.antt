@@ -1,11 +1,12 @@
 -- Names gathered are those that a loop carries.
-use Rattle.std.proofs.Common.{◌≡◌, Bool, true, false, cond, not, ◌||◌, List, [], ◌∷◌, ◌++◌, filter, refl, sym, ap, ap₂, ◌∙◌, append_assoc, append-nil}
+use Rattle.std.proofs.lemmas.List.{take_more}
+use Rattle.std.proofs.Common.{◌≡◌, ℕ, ◌+◌, ◌<◌, length, get_or, take, subst, Bool, true, false, cond, not, ◌||◌, List, [], ◌∷◌, ◌++◌, filter, refl, sym, ap, ap₂, ◌∙◌, append_assoc, append-nil}
 use Rattle.std.specs.List.{list_any}
 use Rattle.indexmap.specs.IndexSet.{insert_key}
 use Rattle.semantics.specs.Query.{Name, Rel}
 use Rattle.semantics.specs.Meaning.{same_name}
-use Rattle.semantics.specs.FreeNames.{free, firsts, other_than, carried}
-use Rattle.lowering.specs.Gathering.{has, gathered}
+use Rattle.semantics.specs.FreeNames.{free, firsts, other_than, carried, has}
+use Rattle.lowering.specs.Gathering.{gathered}
 use Rattle.semantics.proofs.NamesAmong.{Decides-same_name}
 use Rattle.typing.proofs.Named.{same_name-sym}
 
@@ -81,3 +82,36 @@ all_new (z ∷ zs) = ap (λ l. z ∷ l) (all_new zs)
 
 pub gathered_carried : (x : Name) (b : Rel) → gathered (x ∷ []) [] (free b) ≡ carried x b
 gathered_carried x b = gathered_bound [] [] x (free b) ∙ gathered_new [] (filter (other_than x) (free b)) ∙ all_new (carried x b)
+
+-- a name gathered where none was is one of them
+pub has_gathered : (y : Name) (acc xs : List Name) → has y (gathered [] acc xs) ≡ (has y acc || has y xs)
+has_gathered y acc [] = sym (or_false (has y acc))
+has_gathered y acc (x ∷ xs) = has_gathered y (cond (has x acc) acc (acc ++ (x ∷ []))) xs ∙ ap (λ b. b || has y xs) (one (has x acc) refl) ∙ sym (or_assoc (has y acc) (same_name x y) (has y xs))
+  where
+    there : has x acc ≡ true → (b : Bool) → same_name x y ≡ b → has y acc ≡ (has y acc || b)
+    there e true q = subst (λ z. has z acc ≡ (has z acc || true)) ((Decides-same_name x y).0 q) (e ∙ sym (or_true (has x acc)))
+    there e false q = sym (or_false (has y acc))
+
+    one : (b : Bool) → has x acc ≡ b → has y (cond b acc (acc ++ (x ∷ []))) ≡ (has y acc || same_name x y)
+    one true e = there e (same_name x y) refl
+    one false e = has_push y x acc
+
+-- one name more of those that aren't needed
+pub once_more : (ys : List Name) (i : ℕ) (y : Name) (kept needed_names : List Name) (b : Bool) → i < length ys → y ≡ get_or ys i y → has y needed_names ≡ b → kept ≡ filter (λ y. not (has y needed_names)) (take i ys)
+    → cond b kept (kept ++ (y ∷ [])) ≡ filter (λ y. not (has y needed_names)) (take (i + 1) ys)
+once_more ys i y kept needed_names b within is e k =
+    by b e
+    ∙ sym (ap (filter (λ y. not (has y needed_names))) (take_more ys i y within ∙ ap (λ z. take i ys ++ z ∷ []) (sym is)) ∙ filter_push (take i ys))
+  where
+    filter_push : (xs : List Name) → filter (λ y. not (has y needed_names)) (xs ++ (y ∷ [])) ≡ filter (λ y. not (has y needed_names)) xs ++ cond (not (has y needed_names)) (y ∷ []) []
+    filter_push [] = refl
+    filter_push (x ∷ xs) = go (not (has x needed_names)) (filter_push xs)
+      where
+        go : (t : Bool) → filter (λ y. not (has y needed_names)) (xs ++ (y ∷ [])) ≡ filter (λ y. not (has y needed_names)) xs ++ cond (not (has y needed_names)) (y ∷ []) []
+            → cond t (x ∷ filter (λ y. not (has y needed_names)) (xs ++ (y ∷ []))) (filter (λ y. not (has y needed_names)) (xs ++ (y ∷ []))) ≡ cond t (x ∷ filter (λ y. not (has y needed_names)) xs) (filter (λ y. not (has y needed_names)) xs) ++ cond (not (has y needed_names)) (y ∷ []) []
+        go true q = ap (λ l. x ∷ l) q
+        go false q = q
+
+    by : (b : Bool) → has y needed_names ≡ b → cond b kept (kept ++ (y ∷ [])) ≡ filter (λ y. not (has y needed_names)) (take i ys) ++ cond (not (has y needed_names)) (y ∷ []) []
+    by true q = k ∙ sym (append-nil (filter (λ y. not (has y needed_names)) (take i ys))) ∙ ap (λ t. filter (λ y. not (has y needed_names)) (take i ys) ++ cond (not t) (y ∷ []) []) (sym q)
+    by false q = ap (λ l. l ++ (y ∷ [])) k ∙ ap (λ t. filter (λ y. not (has y needed_names)) (take i ys) ++ cond (not t) (y ∷ []) []) (sym q)

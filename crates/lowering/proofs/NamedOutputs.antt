@@ -18,15 +18,15 @@ use Rattle.lowering.proofs.Forms.{full_over, is_over}
 use Rattle.lowering.proofs.Scopes.{split_first}
 
 -- the vertices before the others' outputs: those of the relation, and the output's own
-next_number : (m0 m1 m2 : List Vertex) (o : Output) (ports : Ports) (from : graph.Port) (v : graph.Vertex) → IsLowered (graph_of m0) (graph_of m1) from (lower o.value ports 0 (length m0)) → graph_of m2 ≡ graph_of m1 ++ (v ∷ []) → length m2 ≡ suc (length m0 + length (lower o.value ports 0 (length m0)).made)
+next_number : (m0 m1 m2 : List Vertex) (o : Output) (ports : Ports) (from : graph.Port) (v : graph.Vertex) → IsLowered (graph_of m0) (graph_of m1) from (lower o.value ports [] 0 (length m0)) → graph_of m2 ≡ graph_of m1 ++ (v ∷ []) → length m2 ≡ suc (length m0 + length (lower o.value ports [] 0 (length m0)).made)
 next_number m0 m1 m2 o ports from v i e = omega (arith, number_of m0 m1 _ i.made, number_of m1 m2 (v ∷ []) e)
 
 pub outputs_made : (m0 m1 m2 m3 : List Vertex) (os rest : List Output) (o : Output) (ports : Ports) (from : graph.Port) → os ≡ o ∷ rest
-    → IsLowered (graph_of m0) (graph_of m1) from (lower o.value ports 0 (length m0)) → graph_of m2 ≡ graph_of m1 ++ (new_vertex semantics.Kind.output 0 (from ∷ []) ∷ [])
+    → IsLowered (graph_of m0) (graph_of m1) from (lower o.value ports [] 0 (length m0)) → graph_of m2 ≡ graph_of m1 ++ (new_vertex semantics.Kind.output 0 (from ∷ []) ∷ [])
     → graph_of m3 ≡ graph_of m2 ++ lower_outputs rest ports (length m2) → graph_of m3 ≡ graph_of m0 ++ lower_outputs os ports (length m0)
 unfolding lower_outputs
 outputs_made m0 m1 m2 m3 os rest o ports from n i e f =
-    let r = lower o.value ports 0 (length m0) in
+    let r = lower o.value ports [] 0 (length m0) in
     let v = new_vertex semantics.Kind.output 0 (from ∷ []) in
     let w = new_vertex semantics.Kind.output 0 (r.gives ∷ []) in
     let k = next_number m0 m1 m2 o ports from v i e in
@@ -36,23 +36,23 @@ outputs_made m0 m1 m2 m3 os rest o ports from n i e f =
     ∙ sym (ap (λ l. graph_of m0 ++ lower_outputs l ports (length m0)) n)
 
 -- how many there are
-outputs_length : (k : ℕ) (o : Output) (rest : List Output) (ports : Ports) → length (lower_outputs (o ∷ rest) ports k) ≡ suc (length (lower o.value ports 0 k).made + length (lower_outputs rest ports (suc (k + length (lower o.value ports 0 k).made))))
+outputs_length : (k : ℕ) (o : Output) (rest : List Output) (ports : Ports) → length (lower_outputs (o ∷ rest) ports k) ≡ suc (length (lower o.value ports [] 0 k).made + length (lower_outputs rest ports (suc (k + length (lower o.value ports [] 0 k).made))))
 unfolding lower_outputs
 outputs_length k o rest ports =
-    let r = lower o.value ports 0 k in
+    let r = lower o.value ports [] 0 k in
     omega (arith, length-append r.made (new_vertex semantics.Kind.output 0 (r.gives ∷ []) ∷ lower_outputs rest ports (suc (k + length r.made))))
 
-pub relation_over : (e : LowerFault) (k : ℕ) (os rest : List Output) (o : Output) (ports : Ports) → os ≡ o ∷ rest → IsOver e (k + length (lower o.value ports 0 k).made) → IsOver e (k + length (lower_outputs os ports k))
+pub relation_over : (e : LowerFault) (k : ℕ) (os rest : List Output) (o : Output) (ports : Ports) → os ≡ o ∷ rest → IsOver e (k + length (lower o.value ports [] 0 k).made) → IsOver e (k + length (lower_outputs os ports k))
 relation_over e k os rest o ports n h =
     is_over e _ _ h (omega (arith, outputs_length k o rest ports, ap (λ l. length (lower_outputs l ports k)) n))
 
-pub output_over : (e : LowerFault) (m0 m1 : List Vertex) (os rest : List Output) (o : Output) (ports : Ports) (from : graph.Port) → os ≡ o ∷ rest → IsLowered (graph_of m0) (graph_of m1) from (lower o.value ports 0 (length m0)) → (IsTooMany e → max_vertices ≤ length m1) → IsOver e (length m0 + length (lower_outputs os ports (length m0)))
+pub output_over : (e : LowerFault) (m0 m1 : List Vertex) (os rest : List Output) (o : Output) (ports : Ports) (from : graph.Port) → os ≡ o ∷ rest → IsLowered (graph_of m0) (graph_of m1) from (lower o.value ports [] 0 (length m0)) → (IsTooMany e → max_vertices ≤ length m1) → IsOver e (length m0 + length (lower_outputs os ports (length m0)))
 output_over e m0 m1 os rest o ports from n i h =
     full_over e (length m1) _ h (omega (arith, number_of m0 m1 _ i.made, outputs_length (length m0) o rest ports, ap (λ l. length (lower_outputs l ports (length m0))) n))
 
-pub rest_over : (e : LowerFault) (m0 m1 m2 : List Vertex) (os rest : List Output) (o : Output) (ports : Ports) (from : graph.Port) (v : graph.Vertex) → os ≡ o ∷ rest → IsLowered (graph_of m0) (graph_of m1) from (lower o.value ports 0 (length m0)) → graph_of m2 ≡ graph_of m1 ++ (v ∷ []) → IsOver e (length m2 + length (lower_outputs rest ports (length m2))) → IsOver e (length m0 + length (lower_outputs os ports (length m0)))
+pub rest_over : (e : LowerFault) (m0 m1 m2 : List Vertex) (os rest : List Output) (o : Output) (ports : Ports) (from : graph.Port) (v : graph.Vertex) → os ≡ o ∷ rest → IsLowered (graph_of m0) (graph_of m1) from (lower o.value ports [] 0 (length m0)) → graph_of m2 ≡ graph_of m1 ++ (v ∷ []) → IsOver e (length m2 + length (lower_outputs rest ports (length m2))) → IsOver e (length m0 + length (lower_outputs os ports (length m0)))
 rest_over e m0 m1 m2 os rest o ports from v n i f h =
-    let r = lower o.value ports 0 (length m0) in
+    let r = lower o.value ports [] 0 (length m0) in
     let k = next_number m0 m1 m2 o ports from v i f in
     let there : IsOver e (suc (length m0 + length r.made) + length (lower_outputs rest ports (suc (length m0 + length r.made)))) = subst (λ j. IsOver e (j + length (lower_outputs rest ports j))) k h in
     is_over e _ _ there (omega (arith, outputs_length (length m0) o rest ports, ap (λ l. length (lower_outputs l ports (length m0))) n))

@@ -19,15 +19,15 @@ use Rattle.lowering.proofs.MoreVertices.{number_of}
 use Rattle.lowering.proofs.Forms.{is_over}
 
 -- one of them
-pub let_lowered : {A : Type 0} → (x : declared.Let A) (m0 m1 : List Vertex) (s0 s1 : Ports) (p : graph.Port) → IsLowered (graph_of m0) (graph_of m1) p (lower (plain_rel (rel_tree x.relation.value)) s0 0 (length m0)) → s1 ≡ stands_for x.name p s0 → AreLowered (graph_of m0) (graph_of m1) s1 (lower_lets (plain_let (let_tree x) ∷ []) s0 (length m0))
+pub let_lowered : {A : Type 0} → (x : declared.Let A) (m0 m1 : List Vertex) (s0 s1 : Ports) (p : graph.Port) → IsLowered (graph_of m0) (graph_of m1) p (lower (plain_rel (rel_tree x.relation.value)) s0 [] 0 (length m0)) → s1 ≡ stands_for x.name p s0 → AreLowered (graph_of m0) (graph_of m1) s1 (lower_lets (plain_let (let_tree x) ∷ []) s0 (length m0))
 unfolding lower_lets
 let_lowered x m0 m1 s0 s1 p i s =
-    let r = lower (plain_rel (rel_tree x.relation.value)) s0 0 (length m0) in
+    let r = lower (plain_rel (rel_tree x.relation.value)) s0 [] 0 (length m0) in
     record { made = i.made ∙ ap (λ l. graph_of m0 ++ l) (sym (append-nil r.made)); names = s ∙ ap (λ q. stands_for x.name q s0) i.gives }
 
-pub let_over : {A : Type 0} → (e : LowerFault) (x : declared.Let A) (s : Ports) (k : ℕ) → IsOver e (k + length (lower (plain_rel (rel_tree x.relation.value)) s 0 k).made) → IsOver e (k + length (lower_lets (plain_let (let_tree x) ∷ []) s k).made)
+pub let_over : {A : Type 0} → (e : LowerFault) (x : declared.Let A) (s : Ports) (k : ℕ) → IsOver e (k + length (lower (plain_rel (rel_tree x.relation.value)) s [] 0 k).made) → IsOver e (k + length (lower_lets (plain_let (let_tree x) ∷ []) s k).made)
 unfolding lower_lets
-let_over e x s k o = let r = lower (plain_rel (rel_tree x.relation.value)) s 0 k in rw (append-nil r.made) o
+let_over e x s k o = let r = lower (plain_rel (rel_tree x.relation.value)) s [] 0 k in rw (append-nil r.made) o
 
 -- these, and then those
 abbrev joined : List Let → List Let → Ports → ℕ → LoweredLets
@@ -40,7 +40,7 @@ lets_append : (xs ys : List Let) (s : Ports) (k : ℕ) → lower_lets (xs ++ ys)
 unfolding lower_lets
 lets_append [] ys s k = let n : k ≡ k + 0 = omega arith in ap (λ j. lower_lets ys s j) n
 lets_append (a ∷ xs) ys s k =
-    let r = lower a.value s 0 k in
+    let r = lower a.value s [] 0 k in
     let t = stands_for a.name r.gives s in
     let l = lower_lets xs t (k + length r.made) in
     let n : (k + length r.made) + length l.made ≡ k + length (r.made ++ l.made) = omega (arith, length-append r.made l.made) in

@@ -2,10 +2,10 @@
 use Rattle.std.proofs.Common.{◌≡◌, ℕ, zero, suc, ◌+◌, ◌<◌, ◌≤◌, Bool, true, false, cond, ◌⊎◌, inl, inr, List, [], ◌∷◌, ◌++◌, length, refl, ap, subst, ◌∙◌, arith, length-append, slice_index_or}
 use Rattle.std.specs.List.{AllByRecursion}
 use Rattle.semantics.specs.Query.{Loop, Name, Rel, Input, Let, Output, Program}
-use Rattle.semantics.specs.FreeNames.{carried}
+use Rattle.semantics.specs.FreeNames.{carried, once_names}
 use Rattle.semantics.specs.Kinds.{Kind}
 use Rattle.semantics.specs.Graph.{Graph, Port, Vertex, no_vertex}
-use Rattle.semantics.specs.Lower.{Lowered, LoweredLets, Ports, after_start, carried_ports, carry, input_ports, input_vertices, lets_of, looped, lower, lower_lets, lower_outputs, lowered, new_vertex, outputs_of, port, stands_for, then_one, then_two}
+use Rattle.semantics.specs.Lower.{held_turns, is_lookup, join_kind, Lowered, LoweredLets, Ports, after_start, carried_ports, carry, input_ports, input_vertices, lets_of, looped, lower, lower_lets, lower_outputs, lowered, new_vertex, outputs_of, port, stands_for, then_one, then_two}
 use Rattle.semantics.specs.Meaning.{same_name}
 use Rattle.semantics.specs.Typing.{HasArity, OutputsFit, RestFits, WellTyped}
 
@@ -51,13 +51,13 @@ cond_below false p q m h k = k
 stands_below : (x : Name) (p : Port) (ports : Ports) (m : ℕ) → p.vertex < m → Below m ports → Below m (stands_for x p ports)
 stands_below x p ports m h b y = cond_below (same_name x y) p (ports y) m h (b y)
 
-carried_below : (n : ℕ) (ports : Ports) (d k m : ℕ) (ys : List Name) → Below k ports → k + length (carry n ports d k ys) ≤ m → Below m (carried_ports ports k ys)
+carried_below : (n : Name → ℕ) (ports : Ports) (d k m : ℕ) (ys : List Name) → Below k ports → k + length (carry n ports d k ys) ≤ m → Below m (carried_ports ports k ys)
 carried_below n ports d k m [] b h = below_more k m ports (omega arith) b
 carried_below n ports d k m (y ∷ ys) b h =
     stands_below y (port (suc (suc k)) 0) (carried_ports ports (suc (suc (suc (suc k)))) ys) m (omega arith)
     (carried_below n ports d (suc (suc (suc (suc k)))) m ys (below_more k (suc (suc (suc (suc k)))) ports (omega arith) b) (omega arith))
 
-carry_leads : (n : ℕ) (ports : Ports) (d k : ℕ) (ys : List Name) → Below k ports → AllLead k (carry n ports d k ys)
+carry_leads : (n : Name → ℕ) (ports : Ports) (d k : ℕ) (ys : List Name) → Below k ports → AllLead k (carry n ports d k ys)
 carry_leads n ports d k [] b = tt
 carry_leads n ports d k (y ∷ ys) b = (
   inl (b y, tt),
@@ -95,16 +95,16 @@ two_leads k l r kind d a b =
       gives = omega (arith, length-append l.made (r.made ++ (v ∷ [])), length-append r.made (v ∷ []));
     }
 
-loop_leads : (l : Loop) (n k : ℕ) (S : Lowered) (ports : Ports) (d : ℕ) (ys : List Name) (B : Lowered) → Below k ports → LeadsOn k S
-    → LeadsOn (suc (suc (suc (k + length S.made))) + length (carry n ports d (suc (suc (suc (k + length S.made)))) ys)) B
-    → LeadsOn k (after_start S (looped l n (k + length S.made) S ports d ys B))
-loop_leads l n k S ports d ys B b a c =
+loop_leads : (l : Loop) (n k : ℕ) (once : List Name) (S : Lowered) (ports : Ports) (d : ℕ) (ys : List Name) (B : Lowered) → Below k ports → LeadsOn k S
+    → LeadsOn (suc (suc (suc (k + length S.made))) + length (carry (held_turns n once) ports d (suc (suc (suc (k + length S.made)))) ys)) B
+    → LeadsOn k (after_start S (looped l n (k + length S.made) once S ports d ys B))
+loop_leads l n k once S ports d ys B b a c =
     let z = k + length S.made in
     let o = suc (suc (suc z)) in
-    let C = carry n ports d o ys in
+    let C = carry (held_turns n once) ports d o ys in
     let last = o + length C + length B.made in
     let ends = new_vertex Kind.feedback (suc d) (B.gives ∷ []) ∷ new_vertex Kind.egress (suc d) (port (suc (suc z)) 1 ∷ []) ∷ [] in
-    let loop = (looped l n z S ports d ys B).made in
+    let loop = (looped l n z once S ports d ys B).made in
     record {
       made = leads_append k S.made loop a.made (
         inl (a.gives, tt),
@@ -112,7 +112,7 @@ loop_leads l n k S ports d ys B b a c =
           inr (refl, omega arith),
           (
             inl (omega arith, tt),
-            leads_append o C (B.made ++ ends) (carry_leads n ports d o ys (below_more k o ports (omega arith) b))
+            leads_append o C (B.made ++ ends) (carry_leads (held_turns n once) ports d o ys (below_more k o ports (omega arith) b))
                 (leads_append (o + length C) B.made ends c.made (inl (c.gives, tt), (inl (omega arith, tt), tt))),
           ),
         ),
@@ -120,35 +120,36 @@ loop_leads l n k S ports d ys B b a c =
       gives = omega (arith, length-append S.made loop, length-append C (B.made ++ ends), length-append B.made ends);
     }
 
-pub rel_leads : (r : Rel) (ports : Ports) (d k : ℕ) → Below k ports → LeadsOn k (lower r ports d k)
+pub rel_leads : (r : Rel) (ports : Ports) (once : List Name) (d k : ℕ) → Below k ports → LeadsOn k (lower r ports once d k)
 unfolding lower
-rel_leads (Rel.named x) ports d k b = record { made = tt; gives = (let a = b x in omega arith) }
-rel_leads (Rel.select r ss) ports d k b = one_leads k (lower r ports d k) (Kind.select ss) d (rel_leads r ports d k b)
-rel_leads (Rel.filter r c) ports d k b = one_leads k (lower r ports d k) (Kind.filter c) d (rel_leads r ports d k b)
-rel_leads (Rel.concat p q) ports d k b =
-    let j = k + length (lower p ports d k).made in
-    two_leads k (lower p ports d k) (lower q ports d j) Kind.concat d (rel_leads p ports d k b) (rel_leads q ports d j (below_more k j ports (omega arith) b))
-rel_leads (Rel.join p q ps) ports d k b =
-    let j = k + length (lower p ports d k).made in
-    two_leads k (lower p ports d k) (lower q ports d j) (Kind.join ps) d (rel_leads p ports d k b) (rel_leads q ports d j (below_more k j ports (omega arith) b))
-rel_leads (Rel.group r ks gs) ports d k b = one_leads k (lower r ports d k) (Kind.group ks gs) d (rel_leads r ports d k b)
-rel_leads (Rel.distinct r) ports d k b = one_leads k (lower r ports d k) Kind.distinct d (rel_leads r ports d k b)
-rel_leads (Rel.except p q) ports d k b =
-    let j = k + length (lower p ports d k).made in
-    two_leads k (lower p ports d k) (lower q ports d j) Kind.except d (rel_leads p ports d k b) (rel_leads q ports d j (below_more k j ports (omega arith) b))
-rel_leads (Rel.intersect p q) ports d k b =
-    let j = k + length (lower p ports d k).made in
-    two_leads k (lower p ports d k) (lower q ports d j) Kind.intersect d (rel_leads p ports d k b) (rel_leads q ports d j (below_more k j ports (omega arith) b))
-rel_leads (Rel.loop l n x r body) ports d k b =
-    let S = lower r ports d k in
+rel_leads (Rel.named x) ports once d k b = record { made = tt; gives = (let a = b x in omega arith) }
+rel_leads (Rel.select r ss) ports once d k b = one_leads k (lower r ports once d k) (Kind.select ss) d (rel_leads r ports once d k b)
+rel_leads (Rel.filter r c) ports once d k b = one_leads k (lower r ports once d k) (Kind.filter c) d (rel_leads r ports once d k b)
+rel_leads (Rel.concat p q) ports once d k b =
+    let j = k + length (lower p ports once d k).made in
+    two_leads k (lower p ports once d k) (lower q ports once d j) Kind.concat d (rel_leads p ports once d k b) (rel_leads q ports once d j (below_more k j ports (omega arith) b))
+rel_leads (Rel.join p q ps) ports once d k b =
+    let j = k + length (lower p ports once d k).made in
+    two_leads k (lower p ports once d k) (lower q ports once d j) (join_kind (is_lookup q once) ps) d (rel_leads p ports once d k b) (rel_leads q ports once d j (below_more k j ports (omega arith) b))
+rel_leads (Rel.group r ks gs) ports once d k b = one_leads k (lower r ports once d k) (Kind.group ks gs) d (rel_leads r ports once d k b)
+rel_leads (Rel.distinct r) ports once d k b = one_leads k (lower r ports once d k) Kind.distinct d (rel_leads r ports once d k b)
+rel_leads (Rel.except p q) ports once d k b =
+    let j = k + length (lower p ports once d k).made in
+    two_leads k (lower p ports once d k) (lower q ports once d j) Kind.except d (rel_leads p ports once d k b) (rel_leads q ports once d j (below_more k j ports (omega arith) b))
+rel_leads (Rel.intersect p q) ports once d k b =
+    let j = k + length (lower p ports once d k).made in
+    two_leads k (lower p ports once d k) (lower q ports once d j) Kind.intersect d (rel_leads p ports once d k b) (rel_leads q ports once d j (below_more k j ports (omega arith) b))
+rel_leads (Rel.loop l n x r body) ports once d k b =
+    let S = lower r ports once d k in
     let z = k + length S.made in
     let o = suc (suc (suc z)) in
     let ys = carried x body in
-    let m = o + length (carry n ports d o ys) in
+    let inner = once_names l x body in
+    let m = o + length (carry (held_turns n inner) ports d o ys) in
     let inside = stands_for x (port (suc (suc z)) 0) (carried_ports ports o ys) in
     let within : Below m inside = stands_below x (port (suc (suc z)) 0) (carried_ports ports o ys) m (omega arith)
-    (carried_below n ports d o m ys (below_more k o ports (omega arith) b) (omega arith)) in
-    loop_leads l n k S ports d ys (lower body inside (suc d) m) b (rel_leads r ports d k b) (rel_leads body inside (suc d) m within)
+    (carried_below (held_turns n inner) ports d o m ys (below_more k o ports (omega arith) b) (omega arith)) in
+    loop_leads l n k inner S ports d ys (lower body inside inner (suc d) m) b (rel_leads r ports once d k b) (rel_leads body inside inner (suc d) m within)
 
 -- ---- programs
 
@@ -160,9 +161,9 @@ lets_lead : (as' : List Let) (ports : Ports) (k : ℕ) → Below k ports → Let
 unfolding lower_lets
 lets_lead [] ports k b = record { made = tt; ports = below_more k (k + 0) ports (omega arith) b }
 lets_lead (a ∷ as') ports k b =
-    let r = lower a.value ports 0 k in
+    let r = lower a.value ports [] 0 k in
     let j = k + length r.made in
-    let first = rel_leads a.value ports 0 k b in
+    let first = rel_leads a.value ports [] 0 k b in
     let after = stands_for a.name r.gives ports in
     let rest = lets_lead as' after j (stands_below a.name r.gives ports j first.gives (below_more k j ports (omega arith) b)) in
     record {
@@ -216,9 +217,9 @@ outputs_lead : (os : List Output) (ports : Ports) (k : ℕ) → Below k ports �
 unfolding lower_outputs
 outputs_lead [] ports k b = tt
 outputs_lead (o ∷ os) ports k b =
-    let r = lower o.value ports 0 k in
+    let r = lower o.value ports [] 0 k in
     let j = k + length r.made in
-    let first = rel_leads o.value ports 0 k b in
+    let first = rel_leads o.value ports [] 0 k b in
     leads_append k r.made (new_vertex Kind.output 0 (r.gives ∷ []) ∷ lower_outputs os ports (suc j)) first.made
     (inl (first.gives, tt), outputs_lead os ports (suc j) (below_more k (suc j) ports (omega arith) b))
 

@@ -22,6 +22,7 @@ fits_sent (Kind.select ss) n ins out e h = h.1
 fits_sent (Kind.filter c) n ins out e h = h.1
 fits_sent Kind.concat n ins out e h = h.0
 fits_sent (Kind.join ps) n ins out e h = h.1
+fits_sent (Kind.lookup ps) n ins out e h = h.1
 fits_sent (Kind.group ks gs) n ins out e h = h.2
 fits_sent Kind.distinct n ins out e h = h
 fits_sent Kind.except n ins out e h = h.0

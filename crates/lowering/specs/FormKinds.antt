@@ -1,5 +1,5 @@
 -- The kinds of vertices of forms in memory.
-use Rattle.std.specs.Prelude.{List, map}
+use Rattle.std.specs.Prelude.{Bool, List, map}
 use Rattle.expr_tree.specs.declared.scalar.Scalar.{Scalar}
 use Rattle.expr_tree.specs.declared.condition.Cond.{Cond}
 use Rattle.expr_tree.specs.declared.relation.Column.{Column}
@@ -11,6 +11,7 @@ use Rattle.expr_tree.specs.Plain.{plain_agg, plain_cond, plain_pair}
 use Rattle.expr_tree.specs.PlainLists.{plain_scalars}
 use Rattle.expr_tree.specs.Views.{cond_tree}
 use Rattle.semantics.specs.Kinds as semantics
+use Rattle.semantics.specs.Lower as lower
 
 -- of a select
 abbrev pub select_kind : {A : Type 0} → List (Scalar A) → semantics.Kind
@@ -20,9 +21,9 @@ select_kind scalars = semantics.Kind.select (plain_scalars scalars)
 abbrev pub where_kind : {A : Type 0} → Cond A → semantics.Kind
 where_kind condition = semantics.Kind.filter (plain_cond (cond_tree condition))
 
--- of a join
-abbrev pub join_kind : List Pair → semantics.Kind
-join_kind pairs = semantics.Kind.join (map plain_pair pairs)
+-- of a join, or of a lookup
+abbrev pub join_kind : (is_lookup : Bool) → List Pair → semantics.Kind
+join_kind lookup pairs = lower.join_kind lookup (map plain_pair pairs)
 
 -- of a group
 abbrev pub group_kind : (keys : List Column) → List Agg → semantics.Kind

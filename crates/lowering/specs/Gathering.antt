@@ -1,12 +1,7 @@
 -- Names gathered, each once.
 use Rattle.std.specs.Prelude.{Bool, cond, ◌||◌, List, [], ◌∷◌, ◌++◌}
-use Rattle.std.specs.List.{list_any}
 use Rattle.semantics.specs.Query.{Name}
-use Rattle.semantics.specs.Meaning.{same_name}
-
--- the name is among them
-abbrev pub has : Name → List Name → Bool
-has y xs = list_any (λ x. same_name x y) xs
+use Rattle.semantics.specs.FreeNames.{has}
 
 -- those before, and at the end what is neither bound nor among them already
 abbrev pub gathered : List Name → List Name → List Name → List Name

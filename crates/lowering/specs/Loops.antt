@@ -4,10 +4,10 @@ use Rattle.expr_tree.specs.declared.relation.Rel as declared
 use Rattle.expr_tree.specs.declared.relation.LoopForm.{LoopForm}
 use Rattle.expr_tree.specs.Plain.{plain_form, plain_rel}
 use Rattle.expr_tree.specs.Views.{rel_tree}
-use Rattle.semantics.specs.FreeNames.{carried}
+use Rattle.semantics.specs.FreeNames.{carried, once_names}
 use Rattle.semantics.specs.Graph.{Graph, Port, Vertex}
 use Rattle.semantics.specs.Kinds.{Kind}
-use Rattle.semantics.specs.Lower.{Ports, carried_ports, carry, gate_of, new_vertex, port, stands_for}
+use Rattle.semantics.specs.Lower.{Ports, held_turns, carried_ports, carry, gate_of, new_vertex, port, stands_for}
 use Rattle.semantics.specs.Query.{Loop, Name, Rel}
 use Rattle.graph.specs.Views.{graph_of}
 use Rattle.graph.specs.declared.vertex.Vertex as vertex
@@ -20,15 +20,23 @@ plain_loop form n x start body = Rel.loop (plain_form form) n x (plain_rel (rel_
 abbrev pub names_carried : {A : Type 0} → (variable : Name) → declared.Rel A → List Name
 names_carried x body = carried x (plain_rel (rel_tree body))
 
+-- and those of them that come once
+abbrev pub names_once : {A : Type 0} → LoopForm → (variable : Name) → declared.Rel A → List Name
+names_once form x body = once_names (plain_form form) x (plain_rel (rel_tree body))
+
 -- ---- before the body; k is the number of the loop's first vertex, d the depth outside
 
 -- ingress, concat, gate, and the vertices of the carried names ys; the concat has its first source twice, since the second isn't known yet
-abbrev pub loop_entry : Loop → (turns : ℕ) → (start : Port) → Ports → (d k : ℕ) → List Name → List Vertex
-loop_entry l n start ports d k ys =
+abbrev pub loop_entry : Loop → (turns : ℕ) → (once : List Name) → (start : Port) → Ports → (d k : ℕ) → List Name → List Vertex
+loop_entry l n once start ports d k ys =
     new_vertex Kind.ingress d (start ∷ [])
     ∷ new_vertex Kind.concat (suc d) (port k 0 ∷ port k 0 ∷ [])
     ∷ new_vertex (gate_of l n) (suc d) (port (suc k) 0 ∷ [])
-    ∷ carry n ports d (suc (suc (suc k))) ys
+    ∷ carry (held_turns n once) ports d (suc (suc (suc k))) ys
+
+-- the same of a loop in memory, whose names are those of its body
+abbrev pub entry_of : {A : Type 0} → LoopForm → (turns : ℕ) → (variable : Name) → (body : declared.Rel A) → (start : Port) → Ports → (d k : ℕ) → List Vertex
+entry_of form n x body start ports d k = loop_entry (plain_form form) n (names_once form x body) start ports d k (names_carried x body)
 
 -- ingress, concat, hold and feedback of one carried name, which stands for a port outside
 abbrev pub carry_one : (turns : ℕ) → (from : Port) → (d k : ℕ) → List Vertex

@@ -12,6 +12,7 @@ sent (Kind.select ss) n a b = length ss
 sent (Kind.filter c) n a b = a
 sent Kind.concat n a b = a
 sent (Kind.join ps) n a b = a + b
+sent (Kind.lookup ps) n a b = a + b
 sent (Kind.group ks gs) n a b = length ks + length gs
 sent Kind.distinct n a b = a
 sent Kind.except n a b = a

@@ -57,7 +57,7 @@ fn sent_arity(vertex: &Vertex, declared: u64, arities: &[u64]) -> u64
     match &vertex.kind {
         Kind::Input => declared,
         Kind::Select(scalars) => scalars.len() as u64,
-        Kind::Join(_) => first + second,
+        Kind::Join(_) | Kind::Lookup(_) => first + second,
         Kind::Group(keys, aggregates) => keys.len() as u64 + aggregates.len() as u64,
         Kind::Output => first,
         Kind::Where(_) => first,

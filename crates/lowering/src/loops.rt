@@ -4,15 +4,15 @@ ghost use Rattle.std.specs.Prelude.{◌≡◌, ◌≤◌, ◌<◌, ◌++◌, ◌
 ghost use Rattle.semantics.specs.Kinds as semantics;
 ghost use Rattle.semantics.specs.Limits.{max_loops};
 ghost use Rattle.expr_tree.specs.Plain.{plain_form};
-ghost use Rattle.semantics.specs.Lower.{carried_ports, carry, gate_of, new_vertex, port};
+ghost use Rattle.semantics.specs.Lower.{carried_ports, carry, gate_of, held_turns, new_vertex, port};
 ghost use Rattle.lowering.specs.Faults.{IsOver};
-ghost use Rattle.lowering.specs.Loops.{body_port, carry_one, inside_of, loop_entry, names_carried, with_loop_exit};
+ghost use Rattle.lowering.specs.Loops.{body_port, carry_one, entry_of, inside_of, names_carried, names_once, with_loop_exit};
 ghost use Rattle.lowering.specs.Scopes.{Extends, ports_of};
 ghost use Rattle.graph.specs.Limits.{max_vertices};
 ghost use Rattle.graph.specs.Views.{graph_of, kind_of, port_of};
 
 use crate::fault::LowerFault;
-use crate::names::carried_names;
+use crate::names::{carried_names, names_once, stands_in};
 use crate::scope::Scope;
 use crate::vertex::add_vertex;
 use expr_tree::{LoopForm, Rel};
@@ -20,12 +20,13 @@ use graph::{Kind, Port, Sources, Vertex, VertexId};
 use record_core::{Name, NoMemory};
 use std::alloc::{Allocator, Global};
 
-/// What stands at the head of a loop: its form, its limit of turns and its variable.
+/// What stands at the head of a loop: its form, its limit of turns and its variable; and the names that come once where it stands.
 #[derive(Clone, Copy)]
 pub struct LoopHead<'a> {
     pub form: LoopForm,
     pub turns: u64,
     pub variable: &'a Name,
+    pub once: &'a [Name],
 }
 
 /// The vertex that lets records into a turn of a loop, and out of the loop.
@@ -40,7 +41,7 @@ fn gate_kind(form: LoopForm, turns: u64) -> Kind
 
 /// Makes the vertices of a loop that stand before its body: an ingress, a concat whose second source isn't known yet, and a gate
 /// for the variable, then the four of each carried name. In the scope the names then stand for what they mean inside the loop.
-/// Gives the gate's out port 0.
+/// Gives the gate's out port 0, and the names that come once in the body.
 pub fn open_loop<A: Allocator>(
     alloc: Global,
     head: LoopHead<'_>,
@@ -49,25 +50,27 @@ pub fn open_loop<A: Allocator>(
     scope: &mut Scope,
     depth: u32,
     made: &mut Vec<Vertex>,
-) -> Result<Port, LowerFault>
+) -> Result<(Port, Vec<Name>), LowerFault>
     requires { depth < max_loops }
     ensures made { OnOk result (graph_of made.new.items ≡ graph_of made.old.items
-        ++ loop_entry (plain_form head.entry.form) head.entry.turns (port_of start) (ports_of scope.old) depth (length made.old.items) (names_carried head.entry.variable.now body.now)) }
-    ensures gives { IfOk result (λ p. port_of p ≡ body_port (length made.old.items)) }
+        ++ entry_of head.entry.form head.entry.turns head.entry.variable.now body.now (port_of start) (ports_of scope.old) depth (length made.old.items)) }
+    ensures gives { IfOk result (λ r. port_of r.0 ≡ body_port (length made.old.items)) }
+    ensures once { IfOk result (λ r. r.1.items ≡ names_once head.entry.form head.entry.variable.now body.now) }
     ensures inside { OnOk result (ports_of scope.new ≡
         inside_of (ports_of scope.old) head.entry.variable.now (length made.old.items) (names_carried head.entry.variable.now body.now)) }
     ensures outside { OnOk result (Extends scope.old scope.new) }
     ensures many { IfErr result (λ e. IsOver e (length made.old.items
-        + length (loop_entry (plain_form head.entry.form) head.entry.turns (port_of start) (ports_of scope.old) depth (length made.old.items) (names_carried head.entry.variable.now body.now)))) }
+        + length (entry_of head.entry.form head.entry.turns head.entry.variable.now body.now (port_of start) (ports_of scope.old) depth (length made.old.items)))) }
 {
     let names = carried_names(alloc, head.variable, body)?;
+    let once = names_once(alloc, head.form, head.variable, body, &names)?;
     let first = add_vertex(made, Kind::Ingress, depth, Sources::One(start))?;
     let both = add_vertex(made, Kind::Concat, depth + 1, Sources::Two(first, first))?;
     let kind = gate_kind(head.form, head.turns);
     let gate = add_vertex(made, kind, depth + 1, Sources::One(both))?;
-    carry_names(head.turns, &names, scope, depth, made)?;
+    carry_names(head.turns, &once, &names, scope, depth, made)?;
     scope.bind(head.variable, gate)?;
-    Ok(gate)
+    Ok((gate, once))
 }
 
 /// Makes the vertices of a loop that stand after its body, and gives the concat its second source. Gives the egress's out port.
@@ -107,6 +110,7 @@ pub fn close_loop(
 /// Makes the four vertices of each carried name, in order; in the scope the name then stands for its hold.
 fn carry_names(
     turns: u64,
+    once: &[Name],
     names: &[Name],
     scope: &mut Scope,
     depth: u32,
@@ -114,14 +118,14 @@ fn carry_names(
 ) -> Result<(), LowerFault>
     requires shallow { depth < max_loops }
     requires few { length made.old.items ≤ max_vertices }
-    ensures made { OnOk result (graph_of made.new.items ≡ graph_of made.old.items ++ carry turns (ports_of scope.old) depth (length made.old.items) names.now) }
+    ensures made { OnOk result (graph_of made.new.items ≡ graph_of made.old.items ++ carry (held_turns turns once.now) (ports_of scope.old) depth (length made.old.items) names.now) }
     ensures inside { OnOk result (ports_of scope.new ≡ carried_ports (ports_of scope.old) (length made.old.items) names.now) }
     ensures outside { OnOk result (Extends scope.old scope.new) }
     ensures many { IfErr result (λ e. IsOver e (length made.old.items
-        + length (carry turns (ports_of scope.old) depth (length made.old.items) names.now))) }
+        + length (carry (held_turns turns once.now) (ports_of scope.old) depth (length made.old.items) names.now))) }
 {
     let first = made.len();
-    make_carried(turns, names, scope, depth, made)?;
+    make_carried(turns, once, names, scope, depth, made)?;
     bind_carried(names, first, scope)?;
     Ok(())
 }
@@ -129,6 +133,7 @@ fn carry_names(
 /// Makes the four vertices of each carried name, in order.
 fn make_carried(
     turns: u64,
+    once: &[Name],
     names: &[Name],
     scope: &Scope,
     depth: u32,
@@ -136,16 +141,25 @@ fn make_carried(
 ) -> Result<(), LowerFault>
     requires shallow { depth < max_loops }
     requires few { length made.old.items ≤ max_vertices }
-    ensures made { OnOk result (graph_of made.new.items ≡ graph_of made.old.items ++ carry turns (ports_of scope.now) depth (length made.old.items) names.now) }
+    ensures made { OnOk result (graph_of made.new.items ≡ graph_of made.old.items ++ carry (held_turns turns once.now) (ports_of scope.now) depth (length made.old.items) names.now) }
     ensures few { OnOk result (length made.old.items + 4 * length names.now ≤ max_vertices) }
     ensures many { IfErr result (λ e. IsOver e (length made.old.items
-        + length (carry turns (ports_of scope.now) depth (length made.old.items) names.now))) }
+        + length (carry (held_turns turns once.now) (ports_of scope.now) depth (length made.old.items) names.now))) }
 {
     for i in 0..names.len() {
-        let from = scope.find(&names[i]);
-        carry_one(turns, from, depth, made)?;
+        let name = &names[i];
+        let from = scope.find(name);
+        let held = turns_held(turns, once, name);
+        carry_one(held, from, depth, made)?;
     }
     Ok(())
+}
+
+/// For how many turns a name is held in a loop of that many.
+fn turns_held(turns: u64, once: &[Name], name: &Name) -> u64
+    ensures { result ≡ held_turns turns once.now name.now }
+{
+    if stands_in(once, name) { 1 } else { turns }
 }
 
 /// In the scope each carried name stands for its hold. The vertices of the first name begin at number `first`, and a name hides
@@ -167,7 +181,7 @@ fn bind_carried(names: &[Name], first: usize, scope: &mut Scope) -> Result<(), N
     Ok(())
 }
 
-/// Makes the four vertices of a carried name: it comes in at turn 0, and the hold sends it on at each turn but the last.
+/// Makes the four vertices of a carried name: it comes in at turn 0, and the hold sends it on at that many turns.
 fn carry_one(turns: u64, from: Port, depth: u32, made: &mut Vec<Vertex>) -> Result<(), LowerFault>
     requires { depth < max_loops }
     ensures made { OnOk result (graph_of made.new.items ≡ graph_of made.old.items ++ carry_one turns (port_of from) depth (length made.old.items)) }

@@ -92,7 +92,7 @@ fn lower_let<A: Allocator>(
         (lowered_lets (item.now ∷ []) scope.old (length made.old.items))) }
     ensures many { IfErr result (λ e. IsOver e (length made.old.items + length (lowered_lets (item.now ∷ []) scope.old (length made.old.items)).made)) }
 {
-    let port = lower_rel(alloc, &item.relation, scope, 0, made)?;
+    let port = lower_rel(alloc, &item.relation, scope, &[], 0, made)?;
     scope.bind(&item.name, port)?;
     Ok(())
 }
@@ -111,7 +111,7 @@ fn lower_outputs<A: Allocator>(
     match outputs {
         [] => Ok(()),
         [output, rest @ ..] => {
-            let from = lower_rel(alloc, &output.relation, scope, 0, made)?;
+            let from = lower_rel(alloc, &output.relation, scope, &[], 0, made)?;
             add_vertex(made, Kind::Output, 0, Sources::One(from))?;
             lower_outputs(alloc, rest, scope, made)?;
             Ok(())

@@ -46,6 +46,7 @@ role_input Kind.feedback e = absurd cc
 role_input (Kind.select ss) e = absurd cc
 role_input (Kind.filter c) e = absurd cc
 role_input (Kind.join ps) e = absurd cc
+role_input (Kind.lookup ps) e = absurd cc
 role_input (Kind.group ks as') e = absurd cc
 role_input (Kind.gate n) e = absurd cc
 role_input (Kind.unseen n) e = absurd cc
@@ -64,6 +65,7 @@ role_output Kind.feedback e = absurd cc
 role_output (Kind.select ss) e = absurd cc
 role_output (Kind.filter c) e = absurd cc
 role_output (Kind.join ps) e = absurd cc
+role_output (Kind.lookup ps) e = absurd cc
 role_output (Kind.group ks as') e = absurd cc
 role_output (Kind.gate n) e = absurd cc
 role_output (Kind.unseen n) e = absurd cc
@@ -83,6 +85,7 @@ role_grows Kind.feedback n = tt
 role_grows (Kind.select ss) n = tt
 role_grows (Kind.filter c) n = tt
 role_grows (Kind.join ps) n = tt
+role_grows (Kind.lookup ps) n = absurd (n refl)
 role_grows (Kind.gate m) n = tt
 role_grows (Kind.unseen m) n = absurd (n refl)
 role_grows (Kind.hold m) n = tt
@@ -105,6 +108,8 @@ output_no_keys k e (inr h) = let x : Role.output ≡ Role.notified = sym (ap rol
 has_route_key : (k : Kind) → HasKeys k → (port : ℕ) → (key : Record → Record) × (route_key k port ≡ Some key)
 has_route_key (Kind.join ps) h zero = (_, refl)
 has_route_key (Kind.join ps) h (suc port) = (_, refl)
+has_route_key (Kind.lookup ps) h zero = (_, refl)
+has_route_key (Kind.lookup ps) h (suc port) = (_, refl)
 has_route_key (Kind.group ks as') h port = (_, refl)
 has_route_key Kind.distinct h port = (_, refl)
 has_route_key Kind.except h port = (_, refl)
@@ -123,6 +128,7 @@ has_route_key (Kind.hold n) h port = absurd (neither Role.stateless refl h)
 
 no_route_key : (k : Kind) → role k ≡ Role.stateless → (port : ℕ) (key : Record → Record) → route_key k port ≡ Some key → ⊥
 no_route_key (Kind.join ps) h port key e = cc
+no_route_key (Kind.lookup ps) h port key e = cc
 no_route_key (Kind.group ks as') h port key e = cc
 no_route_key Kind.distinct h port key e = cc
 no_route_key Kind.except h port key e = cc
@@ -273,6 +279,7 @@ uncounted k t inside none = go k inside (λ d. let x = among_times t (times_befo
     go (Kind.group ks as') i f = absurd (f tt)
     go (Kind.gate n) i f = absurd (f tt)
     go (Kind.unseen n) i f = absurd (f tt)
+    go (Kind.lookup ps) i f = absurd (f tt)
     go (Kind.hold n) i f = absurd (f tt)
 
 -- ---- counts
@@ -313,6 +320,7 @@ back_role (Kind.group ks as') e = absurd cc
 back_role (Kind.gate n) e = absurd cc
 back_role (Kind.hold n) e = absurd cc
 back_role (Kind.unseen n) e = refl
+back_role (Kind.lookup ps) e = refl
 
 -- what comes then
 abbrev at_time : (ℕ → Time → List Record) → Time → ℕ → List Record
@@ -321,7 +329,7 @@ at_time a t p = a p t
 role_reads : (k : Kind) (a : ℕ → Time → List Record) (t : Time) → role k ≢ Role.notified → reads k a t ≡ at_time a t
 role_reads k a t s = go (looks_back k) refl
   where
-    go : (b : Bool) → looks_back k ≡ b → reads_if b a t ≡ at_time a t
+    go : (b : Bool) → looks_back k ≡ b → reads_if b (in_ports k) a t ≡ at_time a t
     go false e = refl
     go true e = absurd (s (back_role k e))
 
@@ -563,6 +571,7 @@ module _ (g : Graph) (flows : IsDataflow g) (workers : ℕ) (some : 0 < workers)
   not_input_sends inputs (Kind.select ss) f v out u n = refl
   not_input_sends inputs (Kind.filter c) f v out u n = refl
   not_input_sends inputs (Kind.join ps) f v out u n = refl
+  not_input_sends inputs (Kind.lookup ps) f v out u n = refl
   not_input_sends inputs (Kind.group ks as') f v out u n = refl
   not_input_sends inputs (Kind.gate m) f v out u n = refl
   not_input_sends inputs (Kind.unseen m) f v out u n = refl

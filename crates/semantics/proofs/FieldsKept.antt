@@ -1,19 +1,19 @@
 -- Vertices keep to the arities of their ports; so in a flow on inputs of the right arities, each edge's records have their port's arity.
-use Rattle.std.proofs.Common.{◌≡◌, ℕ, zero, suc, ◌+◌, ◌*◌, ◌≤◌, ◌<◌, nat_lt, nat_eq, Bool, true, false, cond, List, [], ◌∷◌, ◌++◌, map, filter, flat_map, length, refl, sym, ap, subst, ◌∙◌, arith, length-append}
+use Rattle.std.proofs.Common.{◌≡◌, ℕ, zero, suc, ◌+◌, ◌-◌, ◌*◌, ◌≤◌, ◌<◌, nat_lt, nat_eq, Bool, true, false, cond, List, [], ◌∷◌, ◌++◌, map, filter, flat_map, length, refl, sym, ap, subst, ◌∙◌, arith, lt-ltb, ltb-true, length-append}
 use Rattle.std.specs.List.{AllByRecursion}
 use Rattle.semantics.specs.Multiset.{Record, same, one_if, count, each_once}
 use Rattle.semantics.specs.Query.{Scalar, Agg, Pair}
 use Rattle.semantics.specs.Meaning.{project, left_columns, right_columns, value, holds, paired, only_left, grouped, aggregate, with_key}
-use Rattle.semantics.specs.Time.{Time, last, times_before, is_before}
-use Rattle.semantics.specs.Kinds.{Kind, action, in_ports}
+use Rattle.semantics.specs.Time.{Time, last, earlier_turns, times_before, is_before}
+use Rattle.semantics.specs.Kinds.{Kind, action, in_ports, looks_back}
 use Rattle.semantics.specs.Graph.{Graph, vertex, source}
-use Rattle.semantics.specs.Op.{op}
+use Rattle.semantics.specs.Op.{places, port_at, reads_back, reads_if, reads, op}
 use Rattle.semantics.specs.PortArity.{HaveFields, PortsFit, IsTyped}
 use Rattle.semantics.specs.Flow.{Inputs, Flow, IsFlow, IsEdgeTime, sent_by, sent_or_fed, port_flow}
 use Rattle.semantics.specs.Dataflow.{IsDataflow, IsWired}
 use Rattle.semantics.proofs.MultisetSums.{Decides-same, count_here}
 use Rattle.semantics.proofs.RecursiveEquations.{by_rank}
-use Rattle.semantics.proofs.OneFlow.{EdgeTime, vertex_rank, edge_rank, longest_rank, lex_trans, edge_below, length-woven, Rises, reads_now}
+use Rattle.semantics.proofs.OneFlow.{EdgeTime, vertex_rank, edge_rank, longest_rank, lex_trans, edge_below, length-woven, Rises, IsLower, some_port, back_all, earlier_all_lower}
 use Rattle.semantics.proofs.RankRises.{rises_from_nested}
 
 -- each record of the list has n fields
@@ -94,13 +94,14 @@ each_grouped ks as' xs = go (each_once (map (project ks) xs)) (each_present (len
 each_left : (n : ℕ) (xs ys : List Record) → Each n xs → Each n (only_left xs ys)
 each_left n xs ys h = each_present n _ (each_filter n _ xs h)
 
-each_op : (kind : Kind) (arity : ℕ → ℕ) (n : ℕ) → PortsFit kind arity n → (t : Time) (ins : ℕ → List Record) → ((i : ℕ) → i < in_ports kind → Each (arity i) (ins i)) → (out : ℕ) → Each n (op kind t ins out)
+each_op : (kind : Kind) (arity : ℕ → ℕ) (n : ℕ) → PortsFit kind arity n → (t : Time) (ins : ℕ → List Record) → ((i : ℕ) → i < places kind → Each (arity (port_at kind i)) (ins i)) → (out : ℕ) → Each n (op kind t ins out)
 each_op Kind.input arity n fit t ins h out = tt
 each_op Kind.output arity n fit t ins h out = tt
 each_op (Kind.select ss) arity n fit t ins h out = each_map n _ (λ r. length-values ss r ∙ sym fit.1) (ins 0)
 each_op (Kind.filter c) arity n fit t ins h out = each_filter n (holds c) (ins 0) (subst (λ m. Each m (ins 0)) (sym fit.1) (h 0 (omega arith)))
 each_op Kind.concat arity n fit t ins h out = each_append n (ins 0) (ins 1) (subst (λ m. Each m (ins 0)) (sym fit.0) (h 0 (omega arith))) (subst (λ m. Each m (ins 1)) (sym fit.1) (h 1 (omega arith)))
 each_op (Kind.join ps) arity n fit t ins h out = subst (λ m. Each m (paired ps (ins 0) (ins 1))) (sym fit.1) (each_paired (arity 0) (arity 1) ps (ins 0) (ins 1) (h 0 (omega arith)) (h 1 (omega arith)))
+each_op (Kind.lookup ps) arity n fit t ins h out = subst (λ m. Each m (paired ps (ins 0) (ins 1 ++ ins 2))) (sym fit.1) (each_paired (arity 0) (arity 1) ps (ins 0) (ins 1 ++ ins 2) (h 0 (omega arith)) (each_append (arity 1) (ins 1) (ins 2) (h 1 (omega arith)) (h 2 (omega arith))))
 each_op (Kind.group ks as') arity n fit t ins h out = subst (λ m. Each m (grouped ks as' (ins 0))) (sym fit.2) (each_grouped ks as' (ins 0))
 each_op Kind.distinct arity n fit t ins h out = each_present n (ins 0) (subst (λ m. Each m (ins 0)) (sym fit) (h 0 (omega arith)))
 each_op Kind.except arity n fit t ins h out = each_present n _ (each_filter n _ (ins 0) (subst (λ m. Each m (ins 0)) (sym fit.0) (h 0 (omega arith))))
@@ -116,8 +117,22 @@ each_op (Kind.hold k) arity n fit t ins h zero = each_cond n (nat_lt (last t.cou
 each_op (Kind.hold k) arity n fit t ins h (suc out) = each_cond n (nat_lt (last t.counters + 1) k) (ins 0) (subst (λ m. Each m (ins 0)) (sym fit) (h 0 (omega arith)))
 
 -- what a vertex makes of records of the right arities has its own arity
-pub op_fields : (kind : Kind) (arity : ℕ → ℕ) (n : ℕ) → PortsFit kind arity n → (t : Time) (ins : ℕ → List Record) → ((i : ℕ) → i < in_ports kind → HaveFields (arity i) (ins i)) → (out : ℕ) → HaveFields n (op kind t ins out)
-op_fields kind arity n fit t ins h out = have_from n (op kind t ins out) (each_op kind arity n fit t ins (λ i l. each_from (arity i) (ins i) (h i l)) out)
+pub op_fields : (kind : Kind) (arity : ℕ → ℕ) (n : ℕ) → PortsFit kind arity n → (t : Time) (ins : ℕ → List Record) → ((i : ℕ) → i < places kind → HaveFields (arity (port_at kind i)) (ins i)) → (out : ℕ) → HaveFields n (op kind t ins out)
+op_fields kind arity n fit t ins h out = have_from n (op kind t ins out) (each_op kind arity n fit t ins (λ i l. each_from (arity (port_at kind i)) (ins i) (h i l)) out)
+
+-- what is read of records of the right arities has them
+each_read : (kind : Kind) (arity : ℕ → ℕ) (at : ℕ → Time → List Record) (t : Time) → ((p : ℕ) → p < in_ports kind → Each (arity p) (at p t)) → ((p : ℕ) → p < in_ports kind → Each (arity p) (flat_map (at p) (reads_back kind t)))
+    → (i : ℕ) → i < places kind → Each (arity (port_at kind i)) (reads kind at t i)
+each_read kind arity at t now back i l = go (looks_back kind) refl back l
+  where
+    behind : (0 < in_ports kind) → (c : Bool) → nat_lt i (in_ports kind) ≡ c → Each (arity (in_ports kind - 1)) (flat_map (at (in_ports kind - 1)) (earlier_turns t))
+        → Each (arity (cond c i (in_ports kind - 1))) (cond c (at i t) (flat_map (at (in_ports kind - 1)) (earlier_turns t)))
+    behind z true e k = now i (ltb-true i (in_ports kind) e)
+    behind z false e k = k
+
+    go : (b : Bool) → looks_back kind ≡ b → ((p : ℕ) → p < in_ports kind → Each (arity p) (flat_map (at p) (cond b (earlier_turns t) []))) → i < cond b (suc (in_ports kind)) (in_ports kind) → Each (arity (port_at kind i)) (reads_if b (in_ports kind) at t i)
+    go false e back l = subst (λ p. Each (arity p) (at i t)) (sym (ap (λ b. cond b i (in_ports kind - 1)) (lt-ltb i (in_ports kind) l))) (now i l)
+    go true e back l = let z = some_port kind e in behind z (nat_lt i (in_ports kind)) refl (back (in_ports kind - 1) (omega arith))
 
 -- ---- flows
 
@@ -138,6 +153,7 @@ each_sent inputs Kind.feedback f v out n u e k = k
 each_sent inputs (Kind.select ss) f v out n u e k = k
 each_sent inputs (Kind.filter c) f v out n u e k = k
 each_sent inputs (Kind.join ps) f v out n u e k = k
+each_sent inputs (Kind.lookup ps) f v out n u e k = k
 each_sent inputs (Kind.group ks as') f v out n u e k = k
 each_sent inputs (Kind.gate m) f v out n u e k = k
 each_sent inputs (Kind.unseen m) f v out n u e k = k
@@ -156,10 +172,13 @@ module _ (g : Graph) (loops : ℕ → List ℕ) (wired : IsWired g) (rises : Ris
       have_from (arity s.vertex) (port_flow g inputs f s p.time)
       (each_sent inputs x.kind f s.vertex s.out (arity s.vertex) p.time (λ e. each_from (arity s.vertex) (inputs s.vertex p.time.epoch) (given s.vertex p.time.epoch known e))
       (each_flat (arity s.vertex) _ _ (times_before (action x.kind) p.time) (rises.steps p.into p.port p.time v) (λ t a.
-      each_op x.kind (λ i. arity (source g s.vertex i).vertex) (arity s.vertex) (typed.ports s.vertex known) t _ (λ i l.
-      subst (Each (arity (source g s.vertex i).vertex)) (sym (reads_now x.kind (f s.vertex) t i l)) (each_from (arity (source g s.vertex i).vertex) (f s.vertex i t) (below (record { into = s.vertex; port = i; time = t })
-      (record { is_vertex = known; is_port = omega (arith, wired.full s.vertex known, l); has_depth = a.0 })
-      (lex_trans (edge_rank loops s.vertex t) (vertex_rank loops s.vertex t) (edge_rank loops p.into p.time) (edge_below loops s.vertex t) a.1)))) s.out)))
+      let is_there : (i : ℕ) → i < in_ports x.kind → (t' : Time) → IsLower loops s.vertex t t' → Each (arity (source g s.vertex i).vertex) (f s.vertex i t') = λ i l t' b.
+      each_from (arity (source g s.vertex i).vertex) (f s.vertex i t') (below (record { into = s.vertex; port = i; time = t' })
+      (record { is_vertex = known; is_port = omega (arith, wired.full s.vertex known, l); has_depth = b.0 ∙ a.0 })
+      (lex_trans (edge_rank loops s.vertex t') (vertex_rank loops s.vertex t) (edge_rank loops p.into p.time) b.1 a.1)) in
+      each_op x.kind (λ i. arity (source g s.vertex i).vertex) (arity s.vertex) (typed.ports s.vertex known) t _
+      (each_read x.kind (λ i. arity (source g s.vertex i).vertex) (f s.vertex) t (λ i l. is_there i l t (refl, edge_below loops s.vertex t))
+      (λ i l. each_flat (arity (source g s.vertex i).vertex) _ (IsLower loops s.vertex t) (reads_back x.kind t) (back_all x.kind _ t (earlier_all_lower loops s.vertex t (rises.homes s.vertex known ∙ sym a.0))) (is_there i l))) s.out)))
       r (subst (λ n. 0 < n) ((flow.equations p.into p.port p.time v).counts r) k)
 
   pub flow_fields : (w i : ℕ) (u : Time) → IsEdgeTime g w i u → HaveFields (arity (source g w i).vertex) (f w i u)

@@ -16,6 +16,7 @@ is_input_kind Kind.feedback e = absurd cc
 is_input_kind (Kind.select ss) e = absurd cc
 is_input_kind (Kind.filter c) e = absurd cc
 is_input_kind (Kind.join ps) e = absurd cc
+is_input_kind (Kind.lookup ps) e = absurd cc
 is_input_kind (Kind.group ks as') e = absurd cc
 is_input_kind (Kind.gate n) e = absurd cc
 is_input_kind (Kind.unseen n) e = absurd cc

@@ -2,7 +2,7 @@
 use Rattle.std.proofs.Common.{◌≤◌, ◌≡◌, ◌↔◌, ℕ, zero, suc, ◌+◌, ◌<◌, true, false, cond, List, [], ◌∷◌, ◌++◌, length, slice_index_or, refl, sym, ap, ◌∙◌, arith, inl, inr, ◌⊎◌}
 use Rattle.std.proofs.lemmas.Bool.{true≢false}
 use Rattle.std.specs.List.{AllByRecursion}
-use Rattle.semantics.specs.FreeNames.{carried}
+use Rattle.semantics.specs.FreeNames.{carried, once_names}
 use Rattle.semantics.specs.Multiset.{◌≈◌}
 use Rattle.semantics.specs.Meaning.{program_meaning}
 use Rattle.semantics.specs.Time.{last, turn_count, Time, at_epoch}
@@ -14,13 +14,13 @@ use Rattle.semantics.specs.Kinds.{Kind, ends_turn, is_input, is_output}
 use Rattle.semantics.specs.Graph.{Port, Vertex, Graph, no_vertex, vertex, input_count, outputs_from, output_numbers, output_number}
 use Rattle.semantics.proofs.InputNumbers.{input_kind}
 use Rattle.semantics.proofs.LoweredPrograms.{outputs_at, outputs_at_of, length-input_vertices, lowered_means}
-use Rattle.semantics.specs.Lower.{Ports, stands_for, port, new_vertex, carry, carried_ports, lower, input_vertices, input_ports, lower_lets, lets_of, lower_outputs, outputs_of, lowered}
+use Rattle.semantics.specs.Lower.{is_lookup, join_kind, held_turns, Ports, stands_for, port, new_vertex, carry, carried_ports, lower, input_vertices, input_ports, lower_lets, lets_of, lower_outputs, outputs_of, lowered}
 use Rattle.semantics.specs.Query.{Name, Rel, Input, Let, Output, Program}
 use Rattle.semantics.specs.Typing.{WellTyped}
 use Rattle.semantics.proofs.TypedPrograms.{typed_fits}
 use Rattle.semantics.proofs.QuietEnds.{lowered_quiet}
 use Rattle.semantics.proofs.FittingPrograms.{IsFitting}
-use Rattle.semantics.proofs.Gates.{gate_no_input, gate_no_output, gate_no_end}
+use Rattle.semantics.proofs.Gates.{gate_no_input, gate_no_output, gate_no_end, join_no_input, join_no_output, join_no_end}
 use Rattle.semantics.proofs.LoweredLoops.{program_loops, program_sound, wired_from_sound, nested_from_sound}
 
 all_append : (P : Vertex → Type 0) (xs ys : List Vertex) → AllByRecursion P xs → AllByRecursion P ys → AllByRecursion P (xs ++ ys)
@@ -55,37 +55,38 @@ one_inner vs v a i = all_append Inner vs (v ∷ []) a (i, tt)
 two_inner : (vs ws : List Vertex) (v : Vertex) → AllInner vs → AllInner ws → Inner v → AllInner (vs ++ (ws ++ (v ∷ [])))
 two_inner vs ws v a b i = all_append Inner vs (ws ++ (v ∷ [])) a (one_inner ws v b i)
 
-carry_inner : (n : ℕ) (ports : Ports) (d k : ℕ) (ys : List Name) → AllInner (carry n ports d k ys)
+carry_inner : (n : Name → ℕ) (ports : Ports) (d k : ℕ) (ys : List Name) → AllInner (carry n ports d k ys)
 carry_inner n ports d k [] = tt
 carry_inner n ports d k (y ∷ ys) = (plain_inner _ refl refl refl, (plain_inner _ refl refl refl, (plain_inner _ refl refl refl, (record { no_input = refl; no_output = refl; inside = λ e. omega arith }, carry_inner n ports d (suc (suc (suc (suc k)))) ys))))
 
-lower_inner : (r : Rel) (ports : Ports) (d k : ℕ) → AllInner (lower r ports d k).made
+lower_inner : (r : Rel) (ports : Ports) (once : List Name) (d k : ℕ) → AllInner (lower r ports once d k).made
 unfolding lower
-lower_inner (Rel.named x) ports d k = tt
-lower_inner (Rel.select r ss) ports d k = one_inner (lower r ports d k).made _ (lower_inner r ports d k) (plain_inner _ refl refl refl)
-lower_inner (Rel.filter r c) ports d k = one_inner (lower r ports d k).made _ (lower_inner r ports d k) (plain_inner _ refl refl refl)
-lower_inner (Rel.group r ks as') ports d k = one_inner (lower r ports d k).made _ (lower_inner r ports d k) (plain_inner _ refl refl refl)
-lower_inner (Rel.distinct r) ports d k = one_inner (lower r ports d k).made _ (lower_inner r ports d k) (plain_inner _ refl refl refl)
-lower_inner (Rel.concat p q) ports d k = two_inner (lower p ports d k).made (lower q ports d (k + length (lower p ports d k).made)).made _ (lower_inner p ports d k) (lower_inner q ports d (k + length (lower p ports d k).made)) (plain_inner _ refl refl refl)
-lower_inner (Rel.except p q) ports d k = two_inner (lower p ports d k).made (lower q ports d (k + length (lower p ports d k).made)).made _ (lower_inner p ports d k) (lower_inner q ports d (k + length (lower p ports d k).made)) (plain_inner _ refl refl refl)
-lower_inner (Rel.intersect p q) ports d k = two_inner (lower p ports d k).made (lower q ports d (k + length (lower p ports d k).made)).made _ (lower_inner p ports d k) (lower_inner q ports d (k + length (lower p ports d k).made)) (plain_inner _ refl refl refl)
-lower_inner (Rel.join p q ps) ports d k = two_inner (lower p ports d k).made (lower q ports d (k + length (lower p ports d k).made)).made _ (lower_inner p ports d k) (lower_inner q ports d (k + length (lower p ports d k).made)) (plain_inner _ refl refl refl)
-lower_inner (Rel.loop l n x r b) ports d k =
-    let start = lower r ports d k in
+lower_inner (Rel.named x) ports once d k = tt
+lower_inner (Rel.select r ss) ports once d k = one_inner (lower r ports once d k).made _ (lower_inner r ports once d k) (plain_inner _ refl refl refl)
+lower_inner (Rel.filter r c) ports once d k = one_inner (lower r ports once d k).made _ (lower_inner r ports once d k) (plain_inner _ refl refl refl)
+lower_inner (Rel.group r ks as') ports once d k = one_inner (lower r ports once d k).made _ (lower_inner r ports once d k) (plain_inner _ refl refl refl)
+lower_inner (Rel.distinct r) ports once d k = one_inner (lower r ports once d k).made _ (lower_inner r ports once d k) (plain_inner _ refl refl refl)
+lower_inner (Rel.concat p q) ports once d k = two_inner (lower p ports once d k).made (lower q ports once d (k + length (lower p ports once d k).made)).made _ (lower_inner p ports once d k) (lower_inner q ports once d (k + length (lower p ports once d k).made)) (plain_inner _ refl refl refl)
+lower_inner (Rel.except p q) ports once d k = two_inner (lower p ports once d k).made (lower q ports once d (k + length (lower p ports once d k).made)).made _ (lower_inner p ports once d k) (lower_inner q ports once d (k + length (lower p ports once d k).made)) (plain_inner _ refl refl refl)
+lower_inner (Rel.intersect p q) ports once d k = two_inner (lower p ports once d k).made (lower q ports once d (k + length (lower p ports once d k).made)).made _ (lower_inner p ports once d k) (lower_inner q ports once d (k + length (lower p ports once d k).made)) (plain_inner _ refl refl refl)
+lower_inner (Rel.join p q ps) ports once d k = two_inner (lower p ports once d k).made (lower q ports once d (k + length (lower p ports once d k).made)).made _ (lower_inner p ports once d k) (lower_inner q ports once d (k + length (lower p ports once d k).made)) (plain_inner _ (join_no_input (is_lookup q once) ps) (join_no_output (is_lookup q once) ps) (join_no_end (is_lookup q once) ps))
+lower_inner (Rel.loop l n x r b) ports once d k =
+    let start = lower r ports once d k in
     let loop = k + length start.made in
     let outside = suc (suc (suc loop)) in
     let ys = carried x b in
+    let inner = once_names l x b in
     let inside = stands_for x (port (suc (suc loop)) 0) (carried_ports ports outside ys) in
-    let cs = carry n ports d outside ys in
-    let body = lower b inside (suc d) (outside + length cs) in
-    all_append Inner start.made _ (lower_inner r ports d k) (
+    let cs = carry (held_turns n inner) ports d outside ys in
+    let body = lower b inside inner (suc d) (outside + length cs) in
+    all_append Inner start.made _ (lower_inner r ports once d k) (
       plain_inner _ refl refl refl,
       (
         plain_inner _ refl refl refl,
         (
           plain_inner _ (gate_no_input l n) (gate_no_output l n) (gate_no_end l n),
-          all_append Inner cs _ (carry_inner n ports d outside ys)
-              (all_append Inner body.made _ (lower_inner b inside (suc d) (outside + length cs))
+          all_append Inner cs _ (carry_inner (held_turns n inner) ports d outside ys)
+              (all_append Inner body.made _ (lower_inner b inside inner (suc d) (outside + length cs))
               (record { no_input = refl; no_output = refl; inside = λ e. omega arith }, (record { no_input = refl; no_output = refl; inside = λ e. omega arith }, tt))),
         ),
       ),
@@ -95,8 +96,8 @@ lets_inner : (as' : List Let) (ports : Ports) (k : ℕ) → AllInner (lower_lets
 unfolding lower_lets
 lets_inner [] ports k = tt
 lets_inner (a ∷ as') ports k =
-    let r = lower a.value ports 0 k in
-    all_append Inner r.made _ (lower_inner a.value ports 0 k) (lets_inner as' (stands_for a.name r.gives ports) (k + length r.made))
+    let r = lower a.value ports [] 0 k in
+    all_append Inner r.made _ (lower_inner a.value ports [] 0 k) (lets_inner as' (stands_for a.name r.gives ports) (k + length r.made))
 
 -- ---- inputs
 
@@ -127,8 +128,8 @@ outputs_all : (P : Vertex → Type 0) → ((x : Vertex) → Inner x → P x) →
 unfolding lower_outputs
 outputs_all P inner end [] ports k = tt
 outputs_all P inner end (o ∷ os) ports k =
-    let r = lower o.value ports 0 k in
-    all_append P r.made _ (all_more Inner P r.made inner (lower_inner o.value ports 0 k)) (end r.gives, outputs_all P inner end os ports (suc (k + length r.made)))
+    let r = lower o.value ports [] 0 k in
+    all_append P r.made _ (all_more Inner P r.made inner (lower_inner o.value ports [] 0 k)) (end r.gives, outputs_all P inner end os ports (suc (k + length r.made)))
 
 -- the vertices behind the inputs
 no_input_behind : (p : Program) → AllByRecursion NoInput ((lets_of p).made ++ outputs_of p)
@@ -160,14 +161,14 @@ pub outputs_made : (os : List Output) (ports : Ports) (k : ℕ) → outputs_from
 unfolding lower_outputs
 outputs_made [] ports k = refl
 outputs_made (o ∷ os) ports k =
-    let r = lower o.value ports 0 k in
+    let r = lower o.value ports [] 0 k in
     let last = k + length r.made in
-    outputs_after r.made (new_vertex Kind.output 0 (r.gives ∷ []) ∷ lower_outputs os ports (suc last)) k (all_more Inner _ r.made (λ x i. i.no_output) (lower_inner o.value ports 0 k))
+    outputs_after r.made (new_vertex Kind.output 0 (r.gives ∷ []) ∷ lower_outputs os ports (suc last)) k (all_more Inner _ r.made (λ x i. i.no_output) (lower_inner o.value ports [] 0 k))
     ∙ ap (λ ns. last ∷ ns) (outputs_made os ports (suc last))
 
 length-outputs_at : (os : List Output) (ports : Ports) (k : ℕ) → length (outputs_at os ports k) ≡ length os
 length-outputs_at [] ports k = refl
-length-outputs_at (o ∷ os) ports k = ap suc (length-outputs_at os ports (suc (k + length (lower o.value ports 0 k).made)))
+length-outputs_at (o ∷ os) ports k = ap suc (length-outputs_at os ports (suc (k + length (lower o.value ports [] 0 k).made)))
 
 inputs_no_output : (as' : List Input) → AllByRecursion (λ (x : Vertex). is_output x.kind ≡ false) (input_vertices as')
 inputs_no_output [] = tt

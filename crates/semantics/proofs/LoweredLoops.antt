@@ -4,13 +4,13 @@ use Rattle.std.proofs.lemmas.Bool.{true≢false}
 use Rattle.std.specs.List.{AllByRecursion}
 use Rattle.semantics.proofs.NamesAmong.{Decides-same_name, among_left, among_right, among_others, among_firsts, from_firsts}
 use Rattle.semantics.specs.Multiset.{IsAmong}
-use Rattle.semantics.specs.FreeNames.{other_than, free, carried}
+use Rattle.semantics.specs.FreeNames.{other_than, free, carried, once_names}
 use Rattle.semantics.specs.Limits.{max_loops}
 use Rattle.semantics.specs.Dataflow.{IsWired, Goes, IsNested}
 use Rattle.semantics.specs.Flow.{Inputs, HasOneFlow}
 use Rattle.semantics.specs.Kinds.{Kind, action, in_ports, out_ports}
 use Rattle.semantics.specs.Graph.{Port, Vertex, Graph, no_vertex, vertex, source}
-use Rattle.semantics.specs.Lower.{Ports, stands_for, port, new_vertex, carry, carried_ports, Lowered, lower, looped, input_vertices, input_ports, lower_lets, lets_of, lower_outputs, outputs_of, lowered}
+use Rattle.semantics.specs.Lower.{is_lookup, join_kind, held_turns, Ports, stands_for, port, new_vertex, carry, carried_ports, Lowered, lower, looped, input_vertices, input_ports, lower_lets, lets_of, lower_outputs, outputs_of, lowered}
 use Rattle.semantics.specs.Meaning.{same_name}
 use Rattle.semantics.specs.Query.{Name, Loop, Rel, Input, Let, Output, Program}
 use Rattle.semantics.specs.Time.{Action}
@@ -20,7 +20,7 @@ use Rattle.semantics.proofs.LoweredPrograms.{all_at, stands_whole, length-input_
 use Rattle.semantics.proofs.RankRises.{rises_from_nested}
 use Rattle.semantics.proofs.FittingPrograms.{Nested, LetsFit, AllFit, names_after, input_list, IsFitting}
 use Rattle.semantics.proofs.VertexFlows.{IsAt}
-use Rattle.semantics.proofs.Gates.{gate_ins, gate_outs, gate_stays}
+use Rattle.semantics.proofs.Gates.{gate_ins, gate_outs, gate_stays, join_ins, join_outs, join_stays}
 
 -- ---- vertices that are wired, and are in the loops given for them
 
@@ -65,28 +65,29 @@ abbrev pub carry_homes : List ℕ → List ℕ → List Name → List (List ℕ)
 carry_homes here in' [] = []
 carry_homes here in' (y ∷ ys) = here ∷ in' ∷ in' ∷ in' ∷ carry_homes here in' ys
 
-unfoldable pub homes : Rel → Ports → ℕ → ℕ → List ℕ → List (List ℕ)
-homes (Rel.named x) ports d k here = []
-homes (Rel.select r ss) ports d k here = homes r ports d k here ++ (here ∷ [])
-homes (Rel.filter r c) ports d k here = homes r ports d k here ++ (here ∷ [])
-homes (Rel.concat p q) ports d k here = homes p ports d k here ++ (homes q ports d (k + length (lower p ports d k).made) here ++ (here ∷ []))
-homes (Rel.join p q ps) ports d k here = homes p ports d k here ++ (homes q ports d (k + length (lower p ports d k).made) here ++ (here ∷ []))
-homes (Rel.group r ks as') ports d k here = homes r ports d k here ++ (here ∷ [])
-homes (Rel.distinct r) ports d k here = homes r ports d k here ++ (here ∷ [])
-homes (Rel.except p q) ports d k here = homes p ports d k here ++ (homes q ports d (k + length (lower p ports d k).made) here ++ (here ∷ []))
-homes (Rel.intersect p q) ports d k here = homes p ports d k here ++ (homes q ports d (k + length (lower p ports d k).made) here ++ (here ∷ []))
-homes (Rel.loop l n x r b) ports d k here =
-    let start = lower r ports d k in
+unfoldable pub homes : Rel → Ports → List Name → ℕ → ℕ → List ℕ → List (List ℕ)
+homes (Rel.named x) ports once d k here = []
+homes (Rel.select r ss) ports once d k here = homes r ports once d k here ++ (here ∷ [])
+homes (Rel.filter r c) ports once d k here = homes r ports once d k here ++ (here ∷ [])
+homes (Rel.concat p q) ports once d k here = homes p ports once d k here ++ (homes q ports once d (k + length (lower p ports once d k).made) here ++ (here ∷ []))
+homes (Rel.join p q ps) ports once d k here = homes p ports once d k here ++ (homes q ports once d (k + length (lower p ports once d k).made) here ++ (here ∷ []))
+homes (Rel.group r ks as') ports once d k here = homes r ports once d k here ++ (here ∷ [])
+homes (Rel.distinct r) ports once d k here = homes r ports once d k here ++ (here ∷ [])
+homes (Rel.except p q) ports once d k here = homes p ports once d k here ++ (homes q ports once d (k + length (lower p ports once d k).made) here ++ (here ∷ []))
+homes (Rel.intersect p q) ports once d k here = homes p ports once d k here ++ (homes q ports once d (k + length (lower p ports once d k).made) here ++ (here ∷ []))
+homes (Rel.loop l n x r b) ports once d k here =
+    let start = lower r ports once d k in
     let loop = k + length start.made in
     let outside = suc (suc (suc loop)) in
     let ys = carried x b in
+    let inner = once_names l x b in
     let inside = stands_for x (port (suc (suc loop)) 0) (carried_ports ports outside ys) in
-    let first = outside + length (carry n ports d outside ys) in
-    let body = lower b inside (suc d) first in
+    let first = outside + length (carry (held_turns n inner) ports d outside ys) in
+    let body = lower b inside inner (suc d) first in
     let in' = here ++ (suc (first + length body.made) ∷ []) in
-    homes r ports d k here ++ (here ∷ in' ∷ in' ∷ (carry_homes here in' ys ++ (homes b inside (suc d) first in' ++ (in' ∷ in' ∷ []))))
+    homes r ports once d k here ++ (here ∷ in' ∷ in' ∷ (carry_homes here in' ys ++ (homes b inside inner (suc d) first in' ++ (in' ∷ in' ∷ []))))
 
-length-carry_homes : (n : ℕ) (ports : Ports) (d k : ℕ) (here in' : List ℕ) (ys : List Name) → length (carry_homes here in' ys) ≡ length (carry n ports d k ys)
+length-carry_homes : (n : Name → ℕ) (ports : Ports) (d k : ℕ) (here in' : List ℕ) (ys : List Name) → length (carry_homes here in' ys) ≡ length (carry n ports d k ys)
 length-carry_homes n ports d k here in' [] = refl
 length-carry_homes n ports d k here in' (y ∷ ys) = ap (λ m. suc (suc (suc (suc m)))) (length-carry_homes n ports d (suc (suc (suc (suc k)))) here in' ys)
 
@@ -100,31 +101,32 @@ pub loop_longer : {X Y : Type 0} (hs : List X) (vs : List Y) (js : List X) (ws :
 loop_longer hs vs js ws is us a b c d e p q r s t k l m =
     omega (arith, length-append hs (a ∷ b ∷ c ∷ (js ++ (is ++ (d ∷ e ∷ [])))), length-append vs (p ∷ q ∷ r ∷ (ws ++ (us ++ (s ∷ t ∷ [])))), length-append js (is ++ (d ∷ e ∷ [])), length-append ws (us ++ (s ∷ t ∷ [])), length-append is (d ∷ e ∷ []), length-append us (s ∷ t ∷ []))
 
-pub length-homes : (r : Rel) (ports : Ports) (d k : ℕ) (here : List ℕ) → length (homes r ports d k here) ≡ length (lower r ports d k).made
+pub length-homes : (r : Rel) (ports : Ports) (once : List Name) (d k : ℕ) (here : List ℕ) → length (homes r ports once d k here) ≡ length (lower r ports once d k).made
 unfolding homes lower
-length-homes (Rel.named x) ports d k here = refl
-length-homes (Rel.select r ss) ports d k here = one_longer (homes r ports d k here) here (lower r ports d k).made _ (length-homes r ports d k here)
-length-homes (Rel.filter r c) ports d k here = one_longer (homes r ports d k here) here (lower r ports d k).made _ (length-homes r ports d k here)
-length-homes (Rel.concat p q) ports d k here = two_longer (homes p ports d k here) (homes q ports d (k + length (lower p ports d k).made) here) here (lower p ports d k).made (lower q ports d (k + length (lower p ports d k).made)).made _ (length-homes p ports d k here) (length-homes q ports d (k + length (lower p ports d k).made) here)
-length-homes (Rel.join p q ps) ports d k here = two_longer (homes p ports d k here) (homes q ports d (k + length (lower p ports d k).made) here) here (lower p ports d k).made (lower q ports d (k + length (lower p ports d k).made)).made _ (length-homes p ports d k here) (length-homes q ports d (k + length (lower p ports d k).made) here)
-length-homes (Rel.group r ks as') ports d k here = one_longer (homes r ports d k here) here (lower r ports d k).made _ (length-homes r ports d k here)
-length-homes (Rel.distinct r) ports d k here = one_longer (homes r ports d k here) here (lower r ports d k).made _ (length-homes r ports d k here)
-length-homes (Rel.except p q) ports d k here = two_longer (homes p ports d k here) (homes q ports d (k + length (lower p ports d k).made) here) here (lower p ports d k).made (lower q ports d (k + length (lower p ports d k).made)).made _ (length-homes p ports d k here) (length-homes q ports d (k + length (lower p ports d k).made) here)
-length-homes (Rel.intersect p q) ports d k here = two_longer (homes p ports d k here) (homes q ports d (k + length (lower p ports d k).made) here) here (lower p ports d k).made (lower q ports d (k + length (lower p ports d k).made)).made _ (length-homes p ports d k here) (length-homes q ports d (k + length (lower p ports d k).made) here)
-length-homes (Rel.loop l n x r b) ports d k here =
-    let start = lower r ports d k in
+length-homes (Rel.named x) ports once d k here = refl
+length-homes (Rel.select r ss) ports once d k here = one_longer (homes r ports once d k here) here (lower r ports once d k).made _ (length-homes r ports once d k here)
+length-homes (Rel.filter r c) ports once d k here = one_longer (homes r ports once d k here) here (lower r ports once d k).made _ (length-homes r ports once d k here)
+length-homes (Rel.concat p q) ports once d k here = two_longer (homes p ports once d k here) (homes q ports once d (k + length (lower p ports once d k).made) here) here (lower p ports once d k).made (lower q ports once d (k + length (lower p ports once d k).made)).made _ (length-homes p ports once d k here) (length-homes q ports once d (k + length (lower p ports once d k).made) here)
+length-homes (Rel.join p q ps) ports once d k here = two_longer (homes p ports once d k here) (homes q ports once d (k + length (lower p ports once d k).made) here) here (lower p ports once d k).made (lower q ports once d (k + length (lower p ports once d k).made)).made _ (length-homes p ports once d k here) (length-homes q ports once d (k + length (lower p ports once d k).made) here)
+length-homes (Rel.group r ks as') ports once d k here = one_longer (homes r ports once d k here) here (lower r ports once d k).made _ (length-homes r ports once d k here)
+length-homes (Rel.distinct r) ports once d k here = one_longer (homes r ports once d k here) here (lower r ports once d k).made _ (length-homes r ports once d k here)
+length-homes (Rel.except p q) ports once d k here = two_longer (homes p ports once d k here) (homes q ports once d (k + length (lower p ports once d k).made) here) here (lower p ports once d k).made (lower q ports once d (k + length (lower p ports once d k).made)).made _ (length-homes p ports once d k here) (length-homes q ports once d (k + length (lower p ports once d k).made) here)
+length-homes (Rel.intersect p q) ports once d k here = two_longer (homes p ports once d k here) (homes q ports once d (k + length (lower p ports once d k).made) here) here (lower p ports once d k).made (lower q ports once d (k + length (lower p ports once d k).made)).made _ (length-homes p ports once d k here) (length-homes q ports once d (k + length (lower p ports once d k).made) here)
+length-homes (Rel.loop l n x r b) ports once d k here =
+    let start = lower r ports once d k in
     let loop = k + length start.made in
     let outside = suc (suc (suc loop)) in
     let ys = carried x b in
+    let inner = once_names l x b in
     let inside = stands_for x (port (suc (suc loop)) 0) (carried_ports ports outside ys) in
-    let cs = carry n ports d outside ys in
+    let cs = carry (held_turns n inner) ports d outside ys in
     let first = outside + length cs in
-    let body = lower b inside (suc d) first in
+    let body = lower b inside inner (suc d) first in
     let in' = here ++ (suc (first + length body.made) ∷ []) in
-    let e1 = length-homes r ports d k here in
-    let e2 = length-homes b inside (suc d) first in' in
-    let e3 = length-carry_homes n ports d outside here in' ys in
-    loop_longer (homes r ports d k here) start.made (carry_homes here in' ys) cs (homes b inside (suc d) first in') body.made here in' in' in' in' _ _ _ _ _ e1 e3 e2
+    let e1 = length-homes r ports once d k here in
+    let e2 = length-homes b inside inner (suc d) first in' in
+    let e3 = length-carry_homes (held_turns n inner) ports d outside here in' ys in
+    loop_longer (homes r ports once d k here) start.made (carry_homes here in' ys) cs (homes b inside inner (suc d) first in') body.made here in' in' in' in' _ _ _ _ _ e1 e3 e2
 
 -- ---- each vertex of a relation is sound
 
@@ -175,7 +177,7 @@ module _ (g : Graph) (loops : ℕ → List ℕ) where
   edge_of v o w x a at n e s = (at.known, subst (λ (y : Vertex). o < out_ports y.kind) (sym at.is) n, subst (λ (y : Vertex). Goes loops v w (action y.kind)) (sym at.is) (subst (Goes loops v w) (sym e) s))
 
   abbrev SoundClaim : ℕ → Rel → Type 0
-  SoundClaim d r = (ports : Ports) (k : ℕ) (here : List ℕ) → Stands g k (lower r ports d k).made → Homed loops k (homes r ports d k here) → length here ≡ d → d ≤ max_loops → ((y : Name) → IsAmong y (free r) → Avail (ports y) here k) → AllSound g loops k (lower r ports d k).made × Avail (lower r ports d k).gives here (k + length (lower r ports d k).made)
+  SoundClaim d r = (ports : Ports) (once : List Name) (k : ℕ) (here : List ℕ) → Stands g k (lower r ports once d k).made → Homed loops k (homes r ports once d k here) → length here ≡ d → d ≤ max_loops → ((y : Name) → IsAmong y (free r) → Avail (ports y) here k) → AllSound g loops k (lower r ports once d k).made × Avail (lower r ports once d k).gives here (k + length (lower r ports once d k).made)
 
   one_sound : (ports : Ports) (d k : ℕ) (here : List ℕ) (kind : Kind) (r : Lowered) (hs : List (List ℕ)) → length hs ≡ length r.made → 1 ≡ in_ports kind → 1 ≡ out_ports kind → action kind ≡ Action.stay → length here ≡ d → d ≤ max_loops
       → Stands g k (r.made ++ (new_vertex kind d (r.gives ∷ []) ∷ [])) → Homed loops k (hs ++ (here ∷ []))
@@ -207,7 +209,7 @@ module _ (g : Graph) (loops : ℕ → List ℕ) where
   -- ---- what a loop carries
 
   -- a loop's number is above those of the vertices of its block
-  carry_sound : (n : ℕ) (ports : Ports) (d k eg : ℕ) (here : List ℕ) (ys : List Name) → Stands g k (carry n ports d k ys) → Homed loops k (carry_homes here (here ++ (eg ∷ [])) ys) → length here ≡ d → suc d ≤ max_loops → k + length (carry n ports d k ys) ≤ eg → ((y : Name) → IsAmong y ys → Avail (ports y) here k) → AllSound g loops k (carry n ports d k ys)
+  carry_sound : (n : Name → ℕ) (ports : Ports) (d k eg : ℕ) (here : List ℕ) (ys : List Name) → Stands g k (carry n ports d k ys) → Homed loops k (carry_homes here (here ++ (eg ∷ [])) ys) → length here ≡ d → suc d ≤ max_loops → k + length (carry n ports d k ys) ≤ eg → ((y : Name) → IsAmong y ys → Avail (ports y) here k) → AllSound g loops k (carry n ports d k ys)
   carry_sound n ports d k eg here [] s h l m b avail = tt
   carry_sound n ports d k eg here (y ∷ ys) s h l m b avail =
       let in' = here ++ (eg ∷ []) in
@@ -237,7 +239,7 @@ module _ (g : Graph) (loops : ℕ → List ℕ) where
         ),
       )
 
-  held_avail : (n : ℕ) (ports : Ports) (d k m : ℕ) (here in' : List ℕ) (ys : List Name) → Stands g k (carry n ports d k ys) → Homed loops k (carry_homes here in' ys) → k + length (carry n ports d k ys) ≤ m → (y : Name) → IsAmong y ys → Avail (carried_ports ports k ys y) in' m
+  held_avail : (n : Name → ℕ) (ports : Ports) (d k m : ℕ) (here in' : List ℕ) (ys : List Name) → Stands g k (carry n ports d k ys) → Homed loops k (carry_homes here in' ys) → k + length (carry n ports d k ys) ≤ m → (y : Name) → IsAmong y ys → Avail (carried_ports ports k ys y) in' m
   held_avail n ports d k m here in' [] s h b y j = absurd j
   held_avail n ports d k m here in' (x ∷ xs) s h b y j = go (same_name x y) refl j (held_avail n ports d (suc (suc (suc (suc k)))) m here in' xs s.1.1.1.1 h.1.1.1.1 (omega arith) y)
     where
@@ -246,12 +248,12 @@ module _ (g : Graph) (loops : ℕ → List ℕ) where
       go false q (inl e) f = absurd (true≢false (sym ((Decides-same_name x y).1 e) ∙ q))
       go false q (inr i) f = f i
 
-  loop_sound : (sort : Loop) (n : ℕ) (x : Name) (r b : Rel) → (d : ℕ) → SoundClaim d r → SoundClaim (suc d) b → (ports : Ports) (k : ℕ) (here : List ℕ) → suc d ≤ max_loops → Stands g k (lower (Rel.loop sort n x r b) ports d k).made → Homed loops k (homes (Rel.loop sort n x r b) ports d k here) → length here ≡ d → ((y : Name) → IsAmong y (free (Rel.loop sort n x r b)) → Avail (ports y) here k) → AllSound g loops k (lower (Rel.loop sort n x r b) ports d k).made × Avail (lower (Rel.loop sort n x r b) ports d k).gives here (k + length (lower (Rel.loop sort n x r b) ports d k).made)
+  loop_sound : (sort : Loop) (n : ℕ) (x : Name) (r b : Rel) → (d : ℕ) → SoundClaim d r → SoundClaim (suc d) b → (ports : Ports) (once : List Name) (k : ℕ) (here : List ℕ) → suc d ≤ max_loops → Stands g k (lower (Rel.loop sort n x r b) ports once d k).made → Homed loops k (homes (Rel.loop sort n x r b) ports once d k here) → length here ≡ d → ((y : Name) → IsAmong y (free (Rel.loop sort n x r b)) → Avail (ports y) here k) → AllSound g loops k (lower (Rel.loop sort n x r b) ports once d k).made × Avail (lower (Rel.loop sort n x r b) ports once d k).gives here (k + length (lower (Rel.loop sort n x r b) ports once d k).made)
   unfolding lower homes
-  loop_sound sort n x r b d start_claim body_claim ports k here m s h l avail = (all_sound, gives)
+  loop_sound sort n x r b d start_claim body_claim ports once k here m s h l avail = (all_sound, gives)
     where
       start : Lowered
-      start = lower r ports d k
+      start = lower r ports once d k
 
       loop : ℕ
       loop = k + length start.made
@@ -262,17 +264,20 @@ module _ (g : Graph) (loops : ℕ → List ℕ) where
       ys : List Name
       ys = carried x b
 
+      inner : List Name
+      inner = once_names sort x b
+
       inside : Ports
       inside = stands_for x (port gate 0) (carried_ports ports (suc gate) ys)
 
       cs : List Vertex
-      cs = carry n ports d (suc gate) ys
+      cs = carry (held_turns n inner) ports d (suc gate) ys
 
       first : ℕ
       first = suc gate + length cs
 
       body : Lowered
-      body = lower b inside (suc d) first
+      body = lower b inside inner (suc d) first
 
       back : ℕ
       back = first + length body.made
@@ -284,7 +289,7 @@ module _ (g : Graph) (loops : ℕ → List ℕ) where
       ends = new_vertex Kind.feedback (suc d) (body.gives ∷ []) ∷ new_vertex Kind.egress (suc d) (port gate 1 ∷ []) ∷ []
 
       made : List Vertex
-      made = (looped sort n loop start ports d ys body).made
+      made = (looped sort n loop inner start ports d ys body).made
 
       deep : length in' ≡ suc d
       deep = omega (arith, length-append here (suc back ∷ []))
@@ -300,14 +305,14 @@ module _ (g : Graph) (loops : ℕ → List ℕ) where
       at_back = stands_right g first body.made ends at_first
 
       -- the loops of each part
-      home_loop : Homed loops loop (here ∷ in' ∷ in' ∷ (carry_homes here in' ys ++ (homes b inside (suc d) first in' ++ (in' ∷ in' ∷ []))))
-      home_loop = homed_right loops k (length start.made) (homes r ports d k here) _ (length-homes r ports d k here) h
+      home_loop : Homed loops loop (here ∷ in' ∷ in' ∷ (carry_homes here in' ys ++ (homes b inside inner (suc d) first in' ++ (in' ∷ in' ∷ []))))
+      home_loop = homed_right loops k (length start.made) (homes r ports once d k here) _ (length-homes r ports once d k here) h
 
-      home_first : Homed loops first (homes b inside (suc d) first in' ++ (in' ∷ in' ∷ []))
-      home_first = homed_right loops (suc gate) (length cs) (carry_homes here in' ys) _ (length-carry_homes n ports d (suc gate) here in' ys) home_loop.1.1.1
+      home_first : Homed loops first (homes b inside inner (suc d) first in' ++ (in' ∷ in' ∷ []))
+      home_first = homed_right loops (suc gate) (length cs) (carry_homes here in' ys) _ (length-carry_homes (held_turns n inner) ports d (suc gate) here in' ys) home_loop.1.1.1
 
       home_back : Homed loops back (in' ∷ in' ∷ [])
-      home_back = homed_right loops first (length body.made) (homes b inside (suc d) first in') _ (length-homes b inside (suc d) first in') home_first
+      home_back = homed_right loops first (length body.made) (homes b inside inner (suc d) first in') _ (length-homes b inside inner (suc d) first in') home_first
 
       carried_avail : (y : Name) → IsAmong y ys → Avail (ports y) here (suc gate)
       carried_avail y j = avail_later (ports y) here k (suc gate) (omega arith) (avail y (among_right y (free r) (filter (other_than x) (free b)) (from_firsts y (filter (other_than x) (free b)) j)))
@@ -317,13 +322,13 @@ module _ (g : Graph) (loops : ℕ → List ℕ) where
         where
           go : (t : Bool) → same_name x y ≡ t → Avail (cond t (port gate 0) (carried_ports ports (suc gate) ys y)) in' first
           go true q = avail_here gate 0 _ in' first in_loop.1.1.0 (omega (arith, gate_outs sort n)) (gate_stays sort n) home_loop.1.1.0 (omega arith)
-          go false q = held_avail n ports d (suc gate) first here in' ys (stands_left g (suc gate) cs (body.made ++ ends) in_loop.1.1.1) (homed_left loops (suc gate) (carry_homes here in' ys) _ home_loop.1.1.1) (le_refl first) y (among_firsts y (filter (other_than x) (free b)) (among_others x y (free b) q j))
+          go false q = held_avail (held_turns n inner) ports d (suc gate) first here in' ys (stands_left g (suc gate) cs (body.made ++ ends) in_loop.1.1.1) (homed_left loops (suc gate) (carry_homes here in' ys) _ home_loop.1.1.1) (le_refl first) y (among_firsts y (filter (other_than x) (free b)) (among_others x y (free b) q j))
 
       start_sound : AllSound g loops k start.made × Avail start.gives here loop
-      start_sound = start_claim ports k here (stands_left g k start.made made s) (homed_left loops k (homes r ports d k here) _ h) l (omega arith) (λ y j. avail y (among_left y (free r) _ j))
+      start_sound = start_claim ports once k here (stands_left g k start.made made s) (homed_left loops k (homes r ports once d k here) _ h) l (omega arith) (λ y j. avail y (among_left y (free r) _ j))
 
       body_sound : AllSound g loops first body.made × Avail body.gives in' back
-      body_sound = body_claim inside first in' (stands_left g first body.made ends at_first) (homed_left loops first (homes b inside (suc d) first in') _ home_first) deep m inside_avail
+      body_sound = body_claim inside inner first in' (stands_left g first body.made ends at_first) (homed_left loops first (homes b inside inner (suc d) first in') _ home_first) deep m inside_avail
 
       ends_sound : AllSound g loops back ends
       ends_sound = (
@@ -347,7 +352,7 @@ module _ (g : Graph) (loops : ℕ → List ℕ) where
           (
             record { full = gate_ins sort n; home = ap length home_loop.1.1.0 ∙ deep; shallow = m; edges = (edge_of (suc loop) 0 gate _ Action.stay in_loop.1.0 (omega arith) refl (Goes.same_loop (home_loop.1.1.0 ∙ sym home_loop.1.0) (omega arith)), tt) },
             all_sound-append g loops (suc gate) cs (body.made ++ ends)
-                (carry_sound n ports d (suc gate) (suc back) here ys (stands_left g (suc gate) cs (body.made ++ ends) in_loop.1.1.1) (homed_left loops (suc gate) (carry_homes here in' ys) _ home_loop.1.1.1) l m (omega arith) carried_avail)
+                (carry_sound (held_turns n inner) ports d (suc gate) (suc back) here ys (stands_left g (suc gate) cs (body.made ++ ends) in_loop.1.1.1) (homed_left loops (suc gate) (carry_homes here in' ys) _ home_loop.1.1.1) l m (omega arith) carried_avail)
                 (all_sound-append g loops first body.made ends body_sound.0 ends_sound),
           ),
         ),
@@ -361,49 +366,49 @@ module _ (g : Graph) (loops : ℕ → List ℕ) where
 
   pub relation_sound : (r : Rel) (d : ℕ) → Nested d r → SoundClaim d r
   unfolding lower homes
-  relation_sound (Rel.named x) d t ports k here s h l m avail = (tt, avail_later (ports x) here k (k + 0) (omega arith) (avail x (inl refl)))
-  relation_sound (Rel.select r ss) d t ports k here s h l m avail =
-      let a = lower r ports d k in
-      one_sound ports d k here (Kind.select ss) a (homes r ports d k here) (length-homes r ports d k here) refl refl refl l m s h (relation_sound r d t ports k here (stands_left g k a.made _ s) (homed_left loops k (homes r ports d k here) _ h) l m avail)
-  relation_sound (Rel.filter r c) d t ports k here s h l m avail =
-      let a = lower r ports d k in
-      one_sound ports d k here (Kind.filter c) a (homes r ports d k here) (length-homes r ports d k here) refl refl refl l m s h (relation_sound r d t ports k here (stands_left g k a.made _ s) (homed_left loops k (homes r ports d k here) _ h) l m avail)
-  relation_sound (Rel.group r ks as') d t ports k here s h l m avail =
-      let a = lower r ports d k in
-      one_sound ports d k here (Kind.group ks as') a (homes r ports d k here) (length-homes r ports d k here) refl refl refl l m s h (relation_sound r d t ports k here (stands_left g k a.made _ s) (homed_left loops k (homes r ports d k here) _ h) l m avail)
-  relation_sound (Rel.distinct r) d t ports k here s h l m avail =
-      let a = lower r ports d k in
-      one_sound ports d k here Kind.distinct a (homes r ports d k here) (length-homes r ports d k here) refl refl refl l m s h (relation_sound r d t ports k here (stands_left g k a.made _ s) (homed_left loops k (homes r ports d k here) _ h) l m avail)
-  relation_sound (Rel.concat p q) d t ports k here s h l m avail =
-      let a = lower p ports d k in
+  relation_sound (Rel.named x) d t ports once k here s h l m avail = (tt, avail_later (ports x) here k (k + 0) (omega arith) (avail x (inl refl)))
+  relation_sound (Rel.select r ss) d t ports once k here s h l m avail =
+      let a = lower r ports once d k in
+      one_sound ports d k here (Kind.select ss) a (homes r ports once d k here) (length-homes r ports once d k here) refl refl refl l m s h (relation_sound r d t ports once k here (stands_left g k a.made _ s) (homed_left loops k (homes r ports once d k here) _ h) l m avail)
+  relation_sound (Rel.filter r c) d t ports once k here s h l m avail =
+      let a = lower r ports once d k in
+      one_sound ports d k here (Kind.filter c) a (homes r ports once d k here) (length-homes r ports once d k here) refl refl refl l m s h (relation_sound r d t ports once k here (stands_left g k a.made _ s) (homed_left loops k (homes r ports once d k here) _ h) l m avail)
+  relation_sound (Rel.group r ks as') d t ports once k here s h l m avail =
+      let a = lower r ports once d k in
+      one_sound ports d k here (Kind.group ks as') a (homes r ports once d k here) (length-homes r ports once d k here) refl refl refl l m s h (relation_sound r d t ports once k here (stands_left g k a.made _ s) (homed_left loops k (homes r ports once d k here) _ h) l m avail)
+  relation_sound (Rel.distinct r) d t ports once k here s h l m avail =
+      let a = lower r ports once d k in
+      one_sound ports d k here Kind.distinct a (homes r ports once d k here) (length-homes r ports once d k here) refl refl refl l m s h (relation_sound r d t ports once k here (stands_left g k a.made _ s) (homed_left loops k (homes r ports once d k here) _ h) l m avail)
+  relation_sound (Rel.concat p q) d t ports once k here s h l m avail =
+      let a = lower p ports once d k in
       let e = k + length a.made in
-      let b = lower q ports d e in
-      two_sound ports d k here Kind.concat a b (homes p ports d k here) (homes q ports d e here) (length-homes p ports d k here) (length-homes q ports d e here) refl refl refl l m s h
-      (relation_sound p d t.0 ports k here (stands_left g k a.made _ s) (homed_left loops k (homes p ports d k here) _ h) l m (λ y j. avail y (among_left y (free p) (free q) j)))
-      (relation_sound q d t.1 ports e here (stands_left g e b.made _ (stands_right g k a.made _ s)) (homed_left loops e (homes q ports d e here) _ (homed_right loops k (length a.made) (homes p ports d k here) _ (length-homes p ports d k here) h)) l m (λ y j. avail_later (ports y) here k e (omega arith) (avail y (among_right y (free p) (free q) j))))
-  relation_sound (Rel.except p q) d t ports k here s h l m avail =
-      let a = lower p ports d k in
+      let b = lower q ports once d e in
+      two_sound ports d k here Kind.concat a b (homes p ports once d k here) (homes q ports once d e here) (length-homes p ports once d k here) (length-homes q ports once d e here) refl refl refl l m s h
+      (relation_sound p d t.0 ports once k here (stands_left g k a.made _ s) (homed_left loops k (homes p ports once d k here) _ h) l m (λ y j. avail y (among_left y (free p) (free q) j)))
+      (relation_sound q d t.1 ports once e here (stands_left g e b.made _ (stands_right g k a.made _ s)) (homed_left loops e (homes q ports once d e here) _ (homed_right loops k (length a.made) (homes p ports once d k here) _ (length-homes p ports once d k here) h)) l m (λ y j. avail_later (ports y) here k e (omega arith) (avail y (among_right y (free p) (free q) j))))
+  relation_sound (Rel.except p q) d t ports once k here s h l m avail =
+      let a = lower p ports once d k in
       let e = k + length a.made in
-      let b = lower q ports d e in
-      two_sound ports d k here Kind.except a b (homes p ports d k here) (homes q ports d e here) (length-homes p ports d k here) (length-homes q ports d e here) refl refl refl l m s h
-      (relation_sound p d t.0 ports k here (stands_left g k a.made _ s) (homed_left loops k (homes p ports d k here) _ h) l m (λ y j. avail y (among_left y (free p) (free q) j)))
-      (relation_sound q d t.1 ports e here (stands_left g e b.made _ (stands_right g k a.made _ s)) (homed_left loops e (homes q ports d e here) _ (homed_right loops k (length a.made) (homes p ports d k here) _ (length-homes p ports d k here) h)) l m (λ y j. avail_later (ports y) here k e (omega arith) (avail y (among_right y (free p) (free q) j))))
-  relation_sound (Rel.intersect p q) d t ports k here s h l m avail =
-      let a = lower p ports d k in
+      let b = lower q ports once d e in
+      two_sound ports d k here Kind.except a b (homes p ports once d k here) (homes q ports once d e here) (length-homes p ports once d k here) (length-homes q ports once d e here) refl refl refl l m s h
+      (relation_sound p d t.0 ports once k here (stands_left g k a.made _ s) (homed_left loops k (homes p ports once d k here) _ h) l m (λ y j. avail y (among_left y (free p) (free q) j)))
+      (relation_sound q d t.1 ports once e here (stands_left g e b.made _ (stands_right g k a.made _ s)) (homed_left loops e (homes q ports once d e here) _ (homed_right loops k (length a.made) (homes p ports once d k here) _ (length-homes p ports once d k here) h)) l m (λ y j. avail_later (ports y) here k e (omega arith) (avail y (among_right y (free p) (free q) j))))
+  relation_sound (Rel.intersect p q) d t ports once k here s h l m avail =
+      let a = lower p ports once d k in
       let e = k + length a.made in
-      let b = lower q ports d e in
-      two_sound ports d k here Kind.intersect a b (homes p ports d k here) (homes q ports d e here) (length-homes p ports d k here) (length-homes q ports d e here) refl refl refl l m s h
-      (relation_sound p d t.0 ports k here (stands_left g k a.made _ s) (homed_left loops k (homes p ports d k here) _ h) l m (λ y j. avail y (among_left y (free p) (free q) j)))
-      (relation_sound q d t.1 ports e here (stands_left g e b.made _ (stands_right g k a.made _ s)) (homed_left loops e (homes q ports d e here) _ (homed_right loops k (length a.made) (homes p ports d k here) _ (length-homes p ports d k here) h)) l m (λ y j. avail_later (ports y) here k e (omega arith) (avail y (among_right y (free p) (free q) j))))
-  relation_sound (Rel.join p q ps) d t ports k here s h l m avail =
-      let a = lower p ports d k in
+      let b = lower q ports once d e in
+      two_sound ports d k here Kind.intersect a b (homes p ports once d k here) (homes q ports once d e here) (length-homes p ports once d k here) (length-homes q ports once d e here) refl refl refl l m s h
+      (relation_sound p d t.0 ports once k here (stands_left g k a.made _ s) (homed_left loops k (homes p ports once d k here) _ h) l m (λ y j. avail y (among_left y (free p) (free q) j)))
+      (relation_sound q d t.1 ports once e here (stands_left g e b.made _ (stands_right g k a.made _ s)) (homed_left loops e (homes q ports once d e here) _ (homed_right loops k (length a.made) (homes p ports once d k here) _ (length-homes p ports once d k here) h)) l m (λ y j. avail_later (ports y) here k e (omega arith) (avail y (among_right y (free p) (free q) j))))
+  relation_sound (Rel.join p q ps) d t ports once k here s h l m avail =
+      let a = lower p ports once d k in
       let e = k + length a.made in
-      let b = lower q ports d e in
-      two_sound ports d k here (Kind.join ps) a b (homes p ports d k here) (homes q ports d e here) (length-homes p ports d k here) (length-homes q ports d e here) refl refl refl l m s h
-      (relation_sound p d t.0 ports k here (stands_left g k a.made _ s) (homed_left loops k (homes p ports d k here) _ h) l m (λ y j. avail y (among_left y (free p) (free q) j)))
-      (relation_sound q d t.1 ports e here (stands_left g e b.made _ (stands_right g k a.made _ s)) (homed_left loops e (homes q ports d e here) _ (homed_right loops k (length a.made) (homes p ports d k here) _ (length-homes p ports d k here) h)) l m (λ y j. avail_later (ports y) here k e (omega arith) (avail y (among_right y (free p) (free q) j))))
-  relation_sound (Rel.loop sort n x r b) d t ports k here s h l m avail =
-      loop_sound sort n x r b d (relation_sound r d t.0) (relation_sound b (suc d) t.2) ports k here t.1 s h l avail
+      let b = lower q ports once d e in
+      two_sound ports d k here (join_kind (is_lookup q once) ps) a b (homes p ports once d k here) (homes q ports once d e here) (length-homes p ports once d k here) (length-homes q ports once d e here) (join_ins (is_lookup q once) ps) (join_outs (is_lookup q once) ps) (join_stays (is_lookup q once) ps) l m s h
+      (relation_sound p d t.0 ports once k here (stands_left g k a.made _ s) (homed_left loops k (homes p ports once d k here) _ h) l m (λ y j. avail y (among_left y (free p) (free q) j)))
+      (relation_sound q d t.1 ports once e here (stands_left g e b.made _ (stands_right g k a.made _ s)) (homed_left loops e (homes q ports once d e here) _ (homed_right loops k (length a.made) (homes p ports once d k here) _ (length-homes p ports once d k here) h)) l m (λ y j. avail_later (ports y) here k e (omega arith) (avail y (among_right y (free p) (free q) j))))
+  relation_sound (Rel.loop sort n x r b) d t ports once k here s h l m avail =
+      loop_sound sort n x r b d (relation_sound r d t.0) (relation_sound b (suc d) t.2) ports once k here t.1 s h l avail
 
   -- ---- programs
 
@@ -422,26 +427,26 @@ module _ (g : Graph) (loops : ℕ → List ℕ) where
 
 unfoldable pub lets_homes : List Let → Ports → ℕ → List (List ℕ)
 lets_homes [] ports k = []
-lets_homes (a ∷ as') ports k = homes a.value ports 0 k [] ++ lets_homes as' (stands_for a.name (lower a.value ports 0 k).gives ports) (k + length (lower a.value ports 0 k).made)
+lets_homes (a ∷ as') ports k = homes a.value ports [] 0 k [] ++ lets_homes as' (stands_for a.name (lower a.value ports [] 0 k).gives ports) (k + length (lower a.value ports [] 0 k).made)
 
 pub length-lets_homes : (as' : List Let) (ports : Ports) (k : ℕ) → length (lets_homes as' ports k) ≡ length (lower_lets as' ports k).made
 unfolding lets_homes lower_lets
 length-lets_homes [] ports k = refl
 length-lets_homes (a ∷ as') ports k =
-    let r = lower a.value ports 0 k in
+    let r = lower a.value ports [] 0 k in
     let rest = lower_lets as' (stands_for a.name r.gives ports) (k + length r.made) in
-    omega (arith, length-homes a.value ports 0 k [], length-lets_homes as' (stands_for a.name r.gives ports) (k + length r.made), length-append (homes a.value ports 0 k []) (lets_homes as' (stands_for a.name r.gives ports) (k + length r.made)), length-append r.made rest.made)
+    omega (arith, length-homes a.value ports [] 0 k [], length-lets_homes as' (stands_for a.name r.gives ports) (k + length r.made), length-append (homes a.value ports [] 0 k []) (lets_homes as' (stands_for a.name r.gives ports) (k + length r.made)), length-append r.made rest.made)
 
 module _ (g : Graph) (loops : ℕ → List ℕ) where
   lets_sound : (as' : List Let) (xs : List Name) (ports : Ports) (k : ℕ) → LetsFit xs as' → Stands g k (lower_lets as' ports k).made → Homed loops k (lets_homes as' ports k) → ((y : Name) → IsAmong y xs → Avail g loops (ports y) [] k) → AllSound g loops k (lower_lets as' ports k).made × ((y : Name) → IsAmong y (names_after xs as') → Avail g loops ((lower_lets as' ports k).ports y) [] (k + length (lower_lets as' ports k).made))
   unfolding lower_lets lets_homes
   lets_sound [] xs ports k m s h avail = (tt, λ y j. avail_later g loops (ports y) [] k (k + 0) (omega arith) (avail y j))
   lets_sound (a ∷ as') xs ports k m s h avail =
-      let r = lower a.value ports 0 k in
+      let r = lower a.value ports [] 0 k in
       let ports' = stands_for a.name r.gives ports in
       let rest = lower_lets as' ports' (k + length r.made) in
-      let here : AllSound g loops k r.made × Avail g loops r.gives [] (k + length r.made) = relation_sound g loops a.value 0 m.0.nested ports k [] (stands_left g k r.made rest.made s) (homed_left loops k (homes a.value ports 0 k []) (lets_homes as' ports' (k + length r.made)) h) refl (omega arith) (λ y j. avail y (m.0.known y j)) in
-      let later = lets_sound as' (a.name ∷ xs) ports' (k + length r.made) m.1 (stands_right g k r.made rest.made s) (homed_right loops k (length r.made) (homes a.value ports 0 k []) (lets_homes as' ports' (k + length r.made)) (length-homes a.value ports 0 k []) h)
+      let here : AllSound g loops k r.made × Avail g loops r.gives [] (k + length r.made) = relation_sound g loops a.value 0 m.0.nested ports [] k [] (stands_left g k r.made rest.made s) (homed_left loops k (homes a.value ports [] 0 k []) (lets_homes as' ports' (k + length r.made)) h) refl (omega arith) (λ y j. avail y (m.0.known y j)) in
+      let later = lets_sound as' (a.name ∷ xs) ports' (k + length r.made) m.1 (stands_right g k r.made rest.made s) (homed_right loops k (length r.made) (homes a.value ports [] 0 k []) (lets_homes as' ports' (k + length r.made)) (length-homes a.value ports [] 0 k []) h)
       (λ y j. go y r (same_name a.name y) refl j here.1) in (
         all_sound-append g loops k r.made rest.made here.0 later.0,
         λ y j. avail_later g loops (rest.ports y) [] (k + length r.made + length rest.made) (k + length (r.made ++ rest.made)) (omega (arith, length-append r.made rest.made)) (later.1 y j),
@@ -454,20 +459,20 @@ module _ (g : Graph) (loops : ℕ → List ℕ) where
 
 unfoldable pub outputs_homes : List Output → Ports → ℕ → List (List ℕ)
 outputs_homes [] ports k = []
-outputs_homes (o ∷ os) ports k = homes o.value ports 0 k [] ++ ([] ∷ outputs_homes os ports (suc (k + length (lower o.value ports 0 k).made)))
+outputs_homes (o ∷ os) ports k = homes o.value ports [] 0 k [] ++ ([] ∷ outputs_homes os ports (suc (k + length (lower o.value ports [] 0 k).made)))
 
 module _ (g : Graph) (loops : ℕ → List ℕ) where
   outputs_sound : (os : List Output) (xs : List Name) (ports : Ports) (k : ℕ) → AllFit xs os → Stands g k (lower_outputs os ports k) → Homed loops k (outputs_homes os ports k) → ((y : Name) → IsAmong y xs → Avail g loops (ports y) [] k) → AllSound g loops k (lower_outputs os ports k)
   unfolding lower_outputs outputs_homes
   outputs_sound [] xs ports k m s h avail = tt
   outputs_sound (o ∷ os) xs ports k m s h avail =
-      let r = lower o.value ports 0 k in
+      let r = lower o.value ports [] 0 k in
       let w = k + length r.made in
       let end = new_vertex Kind.output 0 (r.gives ∷ []) in
       let rest = lower_outputs os ports (suc w) in
       let at = stands_right g k r.made (end ∷ rest) s in
-      let home = homed_right loops k (length r.made) (homes o.value ports 0 k []) ([] ∷ outputs_homes os ports (suc w)) (length-homes o.value ports 0 k []) h in
-      let here : AllSound g loops k r.made × Avail g loops r.gives [] w = relation_sound g loops o.value 0 m.0.nested ports k [] (stands_left g k r.made (end ∷ rest) s) (homed_left loops k (homes o.value ports 0 k []) ([] ∷ outputs_homes os ports (suc w)) h) refl (omega arith) (λ y j. avail y (m.0.known y j)) in
+      let home = homed_right loops k (length r.made) (homes o.value ports [] 0 k []) ([] ∷ outputs_homes os ports (suc w)) (length-homes o.value ports [] 0 k []) h in
+      let here : AllSound g loops k r.made × Avail g loops r.gives [] w = relation_sound g loops o.value 0 m.0.nested ports [] k [] (stands_left g k r.made (end ∷ rest) s) (homed_left loops k (homes o.value ports [] 0 k []) ([] ∷ outputs_homes os ports (suc w)) h) refl (omega arith) (λ y j. avail y (m.0.known y j)) in
       let sound : SoundAs g loops w end = record { full = refl; home = ap length home.0; shallow = omega arith; edges = (edge_from g loops r.gives [] w w here.1 home.0 (le_refl w) at.0.known, tt) } in
       all_sound-append g loops k r.made (end ∷ rest) here.0
       (sound, outputs_sound os xs ports (suc w) m.1 at.1 home.1 (λ y j. avail_later g loops (ports y) [] k (suc w) (omega arith) (avail y j)))

@@ -20,7 +20,7 @@ use Rattle.semantics.proofs.VertexFlows.{out_at, edge_at}
 abbrev pub outputs_at : List Output → Ports → (k : ℕ) → List ℕ
 outputs_at [] ports k = []
 outputs_at (o ∷ os) ports k =
-    let last = k + length (lower o.value ports 0 k).made in
+    let last = k + length (lower o.value ports [] 0 k).made in
     last ∷ outputs_at os ports (suc last)
 
 -- the same for a program
@@ -58,7 +58,7 @@ module _ (g : Graph) (inputs : Inputs) (f : Flow) (flow : IsFlow g inputs f) whe
   abbrev out : Port → Time → List Record
   out p u = port_flow g inputs f p u
 
-  inputs_agree : (as' : List Input) (i : ℕ) (e : ℕ) → Stands g i (input_vertices as') → Agree g inputs f flow (input_list as') (input_ports as' i) (record { epoch = e; counters = [] }) (input_names as' i (λ j. inputs j e))
+  inputs_agree : (as' : List Input) (i : ℕ) (e : ℕ) → Stands g i (input_vertices as') → Agree g inputs f flow [] (input_list as') (input_ports as' i) (record { epoch = e; counters = [] }) (input_names as' i (λ j. inputs j e))
   inputs_agree [] i e s y h = absurd h
   inputs_agree (a ∷ as') i e s y h = go (same_name a.name y) refl (inputs_agree as' (suc i) e s.1 y)
     where
@@ -70,29 +70,29 @@ module _ (g : Graph) (inputs : Inputs) (f : Flow) (flow : IsFlow g inputs f) whe
           rest (inl k) = absurd (true≢false (sym ((Decides-same_name a.name y).1 k) ∙ q))
           rest (inr k) = k
 
-  lets_agree : (as' : List Let) (xs : List Name) (ports : Ports) (k : ℕ) (names : Names) (u : Time) → LetsFit xs as' → Stands g k (lower_lets as' ports k).made → length u.counters ≡ 0 → Agree g inputs f flow xs ports u names → Agree g inputs f flow (names_after xs as') (lower_lets as' ports k).ports u (let_names as' names)
+  lets_agree : (as' : List Let) (xs : List Name) (ports : Ports) (k : ℕ) (names : Names) (u : Time) → LetsFit xs as' → Stands g k (lower_lets as' ports k).made → length u.counters ≡ 0 → Agree g inputs f flow [] xs ports u names → Agree g inputs f flow [] (names_after xs as') (lower_lets as' ports k).ports u (let_names as' names)
   unfolding lower_lets let_names
   lets_agree [] xs ports k names u m s l agree = agree
   lets_agree (a ∷ as') xs ports k names u m s l agree =
-      let r = lower a.value ports 0 k in
+      let r = lower a.value ports [] 0 k in
       lets_agree as' (a.name ∷ xs) (stands_for a.name r.gives ports) (k + length r.made) (bind a.name (meaning a.value names) names) u m.1
       (stands_right g k r.made (lower_lets as' (stands_for a.name r.gives ports) (k + length r.made)).made s) l (λ y h. go y (same_name a.name y) refl h)
     where
-      go : (y : Name) (b : Bool) → same_name a.name y ≡ b → (a.name ≡ y) ⊎ IsAmong y xs → out (cond b (lower a.value ports 0 k).gives (ports y)) u ≈ cond b (meaning a.value names) (names y)
-      go y true q h = lower_means g inputs f flow a.value m.0.limited ports 0 k names u (stands_left g k (lower a.value ports 0 k).made _ s) l (λ z j. agree z (m.0.known z j))
+      go : (y : Name) (b : Bool) → same_name a.name y ≡ b → (a.name ≡ y) ⊎ IsAmong y xs → out (cond b (lower a.value ports [] 0 k).gives (ports y)) u ≈ cond b (meaning a.value names) (names y)
+      go y true q h = lower_means g inputs f flow a.value m.0.limited ports [] 0 k names u (stands_left g k (lower a.value ports [] 0 k).made _ s) l (λ z j. refl) (λ z j. agree z (m.0.known z j))
       go y false q (inl e) = absurd (true≢false (sym ((Decides-same_name a.name y).1 e) ∙ q))
       go y false q (inr h) = agree y h
 
-  outputs_agree : (os : List Output) (xs : List Name) (ports : Ports) (k : ℕ) (names : Names) (u : Time) → AllFit xs os → Stands g k (lower_outputs os ports k) → length u.counters ≡ 0 → Agree g inputs f flow xs ports u names → (i none : ℕ) → i < length os → f (slice_index_or (outputs_at os ports k) i none) 0 u ≈ slice_index_or (map (λ (o : Output). meaning o.value names) os) i []
+  outputs_agree : (os : List Output) (xs : List Name) (ports : Ports) (k : ℕ) (names : Names) (u : Time) → AllFit xs os → Stands g k (lower_outputs os ports k) → length u.counters ≡ 0 → Agree g inputs f flow [] xs ports u names → (i none : ℕ) → i < length os → f (slice_index_or (outputs_at os ports k) i none) 0 u ≈ slice_index_or (map (λ (o : Output). meaning o.value names) os) i []
   unfolding lower_outputs
   outputs_agree [] xs ports k names u m s l agree i none b = absurd (omega arith)
   outputs_agree (o ∷ os) xs ports k names u m s l agree zero none b =
-      let r = lower o.value ports 0 k in
+      let r = lower o.value ports [] 0 k in
       let at = (stands_right g k r.made (new_vertex Kind.output 0 (r.gives ∷ []) ∷ lower_outputs os ports (suc (k + length r.made))) s).0 in
       ≈-trans (edge_at g inputs f flow (k + length r.made) (new_vertex Kind.output 0 (r.gives ∷ [])) at 0 u (omega arith) l)
-      (lower_means g inputs f flow o.value m.0.limited ports 0 k names u (stands_left g k r.made _ s) l (λ y h. agree y (m.0.known y h)))
+      (lower_means g inputs f flow o.value m.0.limited ports [] 0 k names u (stands_left g k r.made _ s) l (λ y h. refl) (λ y h. agree y (m.0.known y h)))
   outputs_agree (o ∷ os) xs ports k names u m s l agree (suc i) none b =
-      let r = lower o.value ports 0 k in
+      let r = lower o.value ports [] 0 k in
       let rest = (stands_right g k r.made (new_vertex Kind.output 0 (r.gives ∷ []) ∷ lower_outputs os ports (suc (k + length r.made))) s).1 in
       outputs_agree os xs ports (suc (k + length r.made)) names u m.1 rest l agree i none (omega arith)
 

@@ -1,4 +1,4 @@
--- More in gives more out, except at a group, an except and an unseen.
+-- More in gives more out, except at a vertex that is notified.
 use Rattle.std.proofs.Common.{refl, ◌≡◌, ℕ, zero, suc, ◌+◌, ◌<◌, nat_lt, nat_eq, Bool, true, false, cond, List, [], map, arith}
 use Rattle.semantics.specs.Multiset.{Record, IsPartOf}
 use Rattle.semantics.specs.Kinds.{Role, role, Kind, in_ports}
@@ -14,6 +14,7 @@ abbrev pub Grows : Kind → Type 0
 Grows (Kind.group ks as') = ⊥
 Grows Kind.except = ⊥
 Grows (Kind.unseen n) = ⊥
+Grows (Kind.lookup ps) = ⊥
 Grows _ = Unit {0}
 
 part_refl : (xs : List Record) → IsPartOf xs xs
@@ -36,6 +37,7 @@ op_part Kind.feedback w t xs ys out h = h 0 (omega arith)
 op_part (Kind.select ss) w t xs ys out h = linear_part (selected ss) (map_linear (λ r. map (λ s. value s r) ss)) (xs 0) (ys 0) (h 0 (omega arith))
 op_part (Kind.filter c) w t xs ys out h = linear_part (kept c) (filter_linear (holds c)) (xs 0) (ys 0) (h 0 (omega arith))
 op_part (Kind.join ps) w t xs ys out h = paired_part ps (xs 0) (ys 0) (xs 1) (ys 1) (h 0 (omega arith)) (h 1 (omega arith))
+op_part (Kind.lookup ps) w t xs ys out h = absurd w
 op_part (Kind.group ks as') w t xs ys out h = absurd w
 op_part (Kind.gate n) w t xs ys zero h = cond_part (nat_lt (last t.counters) n) (xs 0) (ys 0) (h 0 (omega arith))
 op_part (Kind.gate n) w t xs ys (suc out) h = cond_part (nat_eq (last t.counters) n) (xs 0) (ys 0) (h 0 (omega arith))
@@ -55,6 +57,7 @@ op_more kind n t xs ys out h = op_part kind (grows kind n) t xs ys out h
     grows (Kind.filter c) n = tt
     grows Kind.concat n = tt
     grows (Kind.join ps) n = tt
+    grows (Kind.lookup ps) n = absurd (n refl)
     grows Kind.distinct n = tt
     grows Kind.except n = absurd (n refl)
     grows Kind.intersect n = tt

@@ -1,5 +1,5 @@
 -- A graph has one flow if the rank rises along its steps.
-use Rattle.std.proofs.Common.{◌≡◌, ℕ, zero, suc, ◌+◌, ◌*◌, ◌≤◌, ◌<◌, nat_lt, nat_eq, Bool, true, false, cond, ◌&&◌, List, [], ◌∷◌, ◌++◌, map, flat_map, length, refl, ap, sym, ◌∙◌, arith, lt-ltb, eq-eqb, inl, inr, ◌⊎◌}
+use Rattle.std.proofs.Common.{◌≡◌, ℕ, zero, suc, ◌+◌, ◌-◌, ◌*◌, ◌≤◌, ◌<◌, nat_lt, nat_eq, Bool, true, false, cond, ◌&&◌, List, [], ◌∷◌, ◌++◌, map, flat_map, length, refl, ap, sym, ◌∙◌, arith, lt-ltb, ltb-true, ltb-false, eq-eqb, inl, inr, ◌⊎◌}
 use Rattle.std.proofs.lemmas.Bool.{and_from, or_left, or_right, true≢false}
 use Rattle.std.specs.List.{AllByRecursion}
 use Rattle.semantics.specs.Limits.{max_loops}
@@ -122,6 +122,7 @@ op_same Kind.feedback t xs ys out h = h 0 (omega arith)
 op_same (Kind.select ss) t xs ys out h = linear_same (map (λ r. map (λ s. value s r) ss)) (map_linear (λ r. map (λ s. value s r) ss)) (xs 0) (ys 0) (h 0 (omega arith))
 op_same (Kind.filter c) t xs ys out h = linear_same _ (filter_linear (holds c)) (xs 0) (ys 0) (h 0 (omega arith))
 op_same (Kind.join ps) t xs ys out h = paired_same ps (xs 0) (ys 0) (xs 1) (ys 1) (h 0 (omega arith)) (h 1 (omega arith))
+op_same (Kind.lookup ps) t xs ys out h = paired_same ps (xs 0) (ys 0) (xs 1 ++ xs 2) (ys 1 ++ ys 2) (h 0 (omega arith)) (append_same (xs 1) (ys 1) (xs 2) (ys 2) (h 1 (omega arith)) (h 2 (omega arith)))
 op_same (Kind.group ks as') t xs ys out h = grouped_same ks as' (xs 0) (ys 0) (h 0 (omega arith))
 op_same (Kind.gate n) t xs ys zero h = cond_same (nat_lt (last t.counters) n) (xs 0) (ys 0) (h 0 (omega arith))
 op_same (Kind.gate n) t xs ys (suc out) h = cond_same (nat_eq (last t.counters) n) (xs 0) (ys 0) (h 0 (omega arith))
@@ -136,33 +137,33 @@ flat_same f h P (t ∷ ts) a k = append_same (f t) (h t) (flat_map f ts) (flat_m
 
 -- ---- what an equation reads
 
--- a kind that looks back has one in port
-pub one_port : (kind : Kind) → looks_back kind ≡ true → in_ports kind ≡ 1
-one_port Kind.input e = absurd (true≢false (sym e))
-one_port Kind.output e = absurd (true≢false (sym e))
-one_port Kind.concat e = absurd (true≢false (sym e))
-one_port Kind.distinct e = absurd (true≢false (sym e))
-one_port Kind.except e = absurd (true≢false (sym e))
-one_port Kind.intersect e = absurd (true≢false (sym e))
-one_port Kind.ingress e = absurd (true≢false (sym e))
-one_port Kind.egress e = absurd (true≢false (sym e))
-one_port Kind.feedback e = absurd (true≢false (sym e))
-one_port (Kind.select ss) e = absurd (true≢false (sym e))
-one_port (Kind.filter c) e = absurd (true≢false (sym e))
-one_port (Kind.join ps) e = absurd (true≢false (sym e))
-one_port (Kind.group ks as') e = absurd (true≢false (sym e))
-one_port (Kind.gate n) e = absurd (true≢false (sym e))
-one_port (Kind.hold n) e = absurd (true≢false (sym e))
-one_port (Kind.unseen n) e = refl
+-- a kind that looks back has an in port
+pub some_port : (kind : Kind) → looks_back kind ≡ true → 0 < in_ports kind
+some_port Kind.input e = absurd (true≢false (sym e))
+some_port Kind.output e = absurd (true≢false (sym e))
+some_port Kind.concat e = absurd (true≢false (sym e))
+some_port Kind.distinct e = absurd (true≢false (sym e))
+some_port Kind.except e = absurd (true≢false (sym e))
+some_port Kind.intersect e = absurd (true≢false (sym e))
+some_port Kind.ingress e = absurd (true≢false (sym e))
+some_port Kind.egress e = absurd (true≢false (sym e))
+some_port Kind.feedback e = absurd (true≢false (sym e))
+some_port (Kind.select ss) e = absurd (true≢false (sym e))
+some_port (Kind.filter c) e = absurd (true≢false (sym e))
+some_port (Kind.join ps) e = absurd (true≢false (sym e))
+some_port (Kind.group ks as') e = absurd (true≢false (sym e))
+some_port (Kind.gate n) e = absurd (true≢false (sym e))
+some_port (Kind.hold n) e = absurd (true≢false (sym e))
+some_port (Kind.unseen n) e = omega arith
+some_port (Kind.lookup ps) e = omega arith
 
 -- at an in port's place, what comes there at the time
 pub reads_now : (kind : Kind) (at : ℕ → Time → List Record) (t : Time) (p : ℕ) → p < in_ports kind → reads kind at t p ≡ at p t
-reads_now kind at t p l = go (looks_back kind) refl p l
+reads_now kind at t p l = go (looks_back kind)
   where
-    go : (b : Bool) → looks_back kind ≡ b → (p : ℕ) → p < in_ports kind → reads_if b at t p ≡ at p t
-    go false e p l = refl
-    go true e zero l = refl
-    go true e (suc p) l = absurd (let z = one_port kind e in omega arith)
+    go : (b : Bool) → reads_if b (in_ports kind) at t p ≡ at p t
+    go false = refl
+    go true = ap (λ b. cond b (at p t) (flat_map (at (in_ports kind - 1)) (earlier_turns t))) (lt-ltb p (in_ports kind) l)
 
 pub back_all : (kind : Kind) (P : Time → Type 0) (t : Time) → AllByRecursion P (earlier_turns t) → AllByRecursion P (reads_back kind t)
 back_all kind P t a = go (looks_back kind)
@@ -172,12 +173,16 @@ back_all kind P t a = go (looks_back kind)
     go false = tt
 
 pub reads_same : (kind : Kind) (t : Time) (a b : ℕ → Time → List Record) → ((p : ℕ) → p < in_ports kind → a p t ≈ b p t) → ((p : ℕ) → p < in_ports kind → flat_map (a p) (reads_back kind t) ≈ flat_map (b p) (reads_back kind t)) → (p : ℕ) → p < places kind → reads kind a t p ≈ reads kind b t p
-reads_same kind t a b h k p l = go (looks_back kind) refl k p l
+reads_same kind t a b h k p l = go (looks_back kind) refl k l
   where
-    go : (c : Bool) → looks_back kind ≡ c → ((p : ℕ) → p < in_ports kind → flat_map (a p) (cond c (earlier_turns t) []) ≈ flat_map (b p) (cond c (earlier_turns t) [])) → (p : ℕ) → p < cond c (suc (in_ports kind)) (in_ports kind) → reads_if c a t p ≈ reads_if c b t p
-    go false e k p l = h p l
-    go true e k zero l = h 0 (let z = one_port kind e in omega arith)
-    go true e k (suc p) l = k 0 (let z = one_port kind e in omega arith)
+    behind : (0 < in_ports kind) → (c : Bool) → nat_lt p (in_ports kind) ≡ c → flat_map (a (in_ports kind - 1)) (earlier_turns t) ≈ flat_map (b (in_ports kind - 1)) (earlier_turns t)
+        → cond c (a p t) (flat_map (a (in_ports kind - 1)) (earlier_turns t)) ≈ cond c (b p t) (flat_map (b (in_ports kind - 1)) (earlier_turns t))
+    behind z true e k = h p (ltb-true p (in_ports kind) e)
+    behind z false e k = k
+
+    go : (c : Bool) → looks_back kind ≡ c → ((p : ℕ) → p < in_ports kind → flat_map (a p) (cond c (earlier_turns t) []) ≈ flat_map (b p) (cond c (earlier_turns t) [])) → p < cond c (suc (in_ports kind)) (in_ports kind) → reads_if c (in_ports kind) a t p ≈ reads_if c (in_ports kind) b t p
+    go false e k l = h p l
+    go true e k l = let z = some_port kind e in behind z (nat_lt p (in_ports kind)) refl (k (in_ports kind - 1) (omega arith))
 
 sends_same : (inputs : Inputs) (kind : Kind) (f h : Flow) (v out : ℕ) (u : Time) → sent_by kind f v out u ≈ sent_by kind h v out u → sent_or_fed inputs kind f v out u ≈ sent_or_fed inputs kind h v out u
 sends_same inputs Kind.input f h v out u k = ≈-refl (inputs v u.epoch)
@@ -192,6 +197,7 @@ sends_same inputs Kind.feedback f h v out u k = k
 sends_same inputs (Kind.select ss) f h v out u k = k
 sends_same inputs (Kind.filter c) f h v out u k = k
 sends_same inputs (Kind.join ps) f h v out u k = k
+sends_same inputs (Kind.lookup ps) f h v out u k = k
 sends_same inputs (Kind.group ks as') f h v out u k = k
 sends_same inputs (Kind.gate n) f h v out u k = k
 sends_same inputs (Kind.unseen n) f h v out u k = k

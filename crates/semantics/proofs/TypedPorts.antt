@@ -4,10 +4,10 @@ use Rattle.std.proofs.lemmas.Bool.{true≢false}
 use Rattle.std.specs.List.{AllByRecursion}
 use Rattle.semantics.proofs.NamesAmong.{Decides-same_name, among_left, among_right, among_others, among_firsts, from_firsts}
 use Rattle.semantics.specs.Multiset.{IsAmong}
-use Rattle.semantics.specs.FreeNames.{other_than, free, carried}
+use Rattle.semantics.specs.FreeNames.{other_than, free, carried, once_names}
 use Rattle.semantics.specs.Graph.{Port, Vertex, no_vertex, no_port, vertex, source, output_number}
 use Rattle.semantics.specs.Kinds.{Kind}
-use Rattle.semantics.specs.Lower.{Ports, stands_for, port, new_vertex, carry, carried_ports, Lowered, lower, gate_of, looped, input_vertices, input_ports, lower_lets, lets_of, lower_outputs, outputs_of, lowered}
+use Rattle.semantics.specs.Lower.{is_lookup, join_kind, held_turns, Ports, stands_for, port, new_vertex, carry, carried_ports, Lowered, lower, gate_of, looped, input_vertices, input_ports, lower_lets, lets_of, lower_outputs, outputs_of, lowered}
 use Rattle.semantics.specs.Meaning.{same_name}
 use Rattle.semantics.specs.PortArity.{PortsFit, IsTyped, Arities, with_arity, rel_arity, carry_arities, made_arities, input_arities, let_arities, lets_made_arities, outputs_made_arities, program_arities}
 use Rattle.semantics.specs.Query.{Name, Pair, Loop, Rel, Input, Let, Output, Program}
@@ -20,30 +20,31 @@ use Rattle.semantics.proofs.TypedPrograms.{typed_fits}
 
 -- ---- as many arities as vertices
 
-length-carry_arities : (of : Arities) (n : ℕ) (ports : Ports) (d k : ℕ) (ys : List Name) → length (carry_arities of ys) ≡ length (carry n ports d k ys)
+length-carry_arities : (of : Arities) (n : Name → ℕ) (ports : Ports) (d k : ℕ) (ys : List Name) → length (carry_arities of ys) ≡ length (carry n ports d k ys)
 length-carry_arities of n ports d k [] = refl
 length-carry_arities of n ports d k (y ∷ ys) = ap (λ m. suc (suc (suc (suc m)))) (length-carry_arities of n ports d (suc (suc (suc (suc k)))) ys)
 
-pub length-made_arities : (r : Rel) (of : Arities) (ports : Ports) (d k : ℕ) → length (made_arities r of) ≡ length (lower r ports d k).made
+pub length-made_arities : (r : Rel) (of : Arities) (ports : Ports) (once : List Name) (d k : ℕ) → length (made_arities r of) ≡ length (lower r ports once d k).made
 unfolding made_arities lower
-length-made_arities (Rel.named x) of ports d k = refl
-length-made_arities (Rel.select r ss) of ports d k = one_longer (made_arities r of) _ (lower r ports d k).made _ (length-made_arities r of ports d k)
-length-made_arities (Rel.filter r c) of ports d k = one_longer (made_arities r of) _ (lower r ports d k).made _ (length-made_arities r of ports d k)
-length-made_arities (Rel.concat p q) of ports d k = two_longer (made_arities p of) (made_arities q of) _ (lower p ports d k).made (lower q ports d (k + length (lower p ports d k).made)).made _ (length-made_arities p of ports d k) (length-made_arities q of ports d (k + length (lower p ports d k).made))
-length-made_arities (Rel.join p q ps) of ports d k = two_longer (made_arities p of) (made_arities q of) _ (lower p ports d k).made (lower q ports d (k + length (lower p ports d k).made)).made _ (length-made_arities p of ports d k) (length-made_arities q of ports d (k + length (lower p ports d k).made))
-length-made_arities (Rel.group r ks as') of ports d k = one_longer (made_arities r of) _ (lower r ports d k).made _ (length-made_arities r of ports d k)
-length-made_arities (Rel.distinct r) of ports d k = one_longer (made_arities r of) _ (lower r ports d k).made _ (length-made_arities r of ports d k)
-length-made_arities (Rel.except p q) of ports d k = two_longer (made_arities p of) (made_arities q of) _ (lower p ports d k).made (lower q ports d (k + length (lower p ports d k).made)).made _ (length-made_arities p of ports d k) (length-made_arities q of ports d (k + length (lower p ports d k).made))
-length-made_arities (Rel.intersect p q) of ports d k = two_longer (made_arities p of) (made_arities q of) _ (lower p ports d k).made (lower q ports d (k + length (lower p ports d k).made)).made _ (length-made_arities p of ports d k) (length-made_arities q of ports d (k + length (lower p ports d k).made))
-length-made_arities (Rel.loop l n x r b) of ports d k =
-    let start = lower r ports d k in
+length-made_arities (Rel.named x) of ports once d k = refl
+length-made_arities (Rel.select r ss) of ports once d k = one_longer (made_arities r of) _ (lower r ports once d k).made _ (length-made_arities r of ports once d k)
+length-made_arities (Rel.filter r c) of ports once d k = one_longer (made_arities r of) _ (lower r ports once d k).made _ (length-made_arities r of ports once d k)
+length-made_arities (Rel.concat p q) of ports once d k = two_longer (made_arities p of) (made_arities q of) _ (lower p ports once d k).made (lower q ports once d (k + length (lower p ports once d k).made)).made _ (length-made_arities p of ports once d k) (length-made_arities q of ports once d (k + length (lower p ports once d k).made))
+length-made_arities (Rel.join p q ps) of ports once d k = two_longer (made_arities p of) (made_arities q of) _ (lower p ports once d k).made (lower q ports once d (k + length (lower p ports once d k).made)).made _ (length-made_arities p of ports once d k) (length-made_arities q of ports once d (k + length (lower p ports once d k).made))
+length-made_arities (Rel.group r ks as') of ports once d k = one_longer (made_arities r of) _ (lower r ports once d k).made _ (length-made_arities r of ports once d k)
+length-made_arities (Rel.distinct r) of ports once d k = one_longer (made_arities r of) _ (lower r ports once d k).made _ (length-made_arities r of ports once d k)
+length-made_arities (Rel.except p q) of ports once d k = two_longer (made_arities p of) (made_arities q of) _ (lower p ports once d k).made (lower q ports once d (k + length (lower p ports once d k).made)).made _ (length-made_arities p of ports once d k) (length-made_arities q of ports once d (k + length (lower p ports once d k).made))
+length-made_arities (Rel.intersect p q) of ports once d k = two_longer (made_arities p of) (made_arities q of) _ (lower p ports once d k).made (lower q ports once d (k + length (lower p ports once d k).made)).made _ (length-made_arities p of ports once d k) (length-made_arities q of ports once d (k + length (lower p ports once d k).made))
+length-made_arities (Rel.loop l n x r b) of ports once d k =
+    let start = lower r ports once d k in
     let outside = suc (suc (suc (k + length start.made))) in
     let ys = carried x b in
+    let inner = once_names l x b in
     let inside = stands_for x (port (suc (suc (k + length start.made))) 0) (carried_ports ports outside ys) in
-    let cs = carry n ports d outside ys in
-    let body = lower b inside (suc d) (outside + length cs) in
+    let cs = carry (held_turns n inner) ports d outside ys in
+    let body = lower b inside inner (suc d) (outside + length cs) in
     loop_longer (made_arities r of) start.made (carry_arities of ys) cs (made_arities b (with_arity x (rel_arity r of) of)) body.made _ _ _ _ _ _ _ _ _ _
-    (length-made_arities r of ports d k) (length-carry_arities of n ports d outside ys) (length-made_arities b (with_arity x (rel_arity r of) of) inside (suc d) (outside + length cs))
+    (length-made_arities r of ports once d k) (length-carry_arities of (held_turns n inner) ports d outside ys) (length-made_arities b (with_arity x (rel_arity r of) of) inside inner (suc d) (outside + length cs))
 
 -- ---- names in scope
 
@@ -134,9 +135,13 @@ module _ (arity : ℕ → ℕ) where
       let typed : TypedAs w v = record { ports = subst (PortsFit kind (λ i. arity (slice_index_or v.ins i no_port).vertex)) (sym is) (fit (λ i. arity (slice_index_or v.ins i no_port).vertex) t.gives u.gives); fields = subst IsArity (sym is) fields } in
       record { all = all_typed-append k r.made (q.made ++ (v ∷ [])) t.all (all_typed-append (k + length r.made) q.made (v ∷ []) u.all (typed, tt)); gives = is; fields = fields }
 
+  join_fits : (b : Bool) (ps : List Pair) (ins : ℕ → ℕ) (n : ℕ) → AllByRecursion (λ (x : Pair). (x.left < ins 0) × (x.right < ins 1)) ps → n ≡ ins 0 + ins 1 → PortsFit (join_kind b ps) ins n
+  join_fits true ps ins n h e = (h, e)
+  join_fits false ps ins n h e = (h, e)
+
   -- ---- what a loop carries
 
-  carry_typed : (n : ℕ) (ports : Ports) (of : Arities) (d k : ℕ) (ys : List Name) → Listed k (carry_arities of ys) → ((y : Name) → IsAmong y ys → NameOf (ports y) (of y)) → AllTyped k (carry n ports d k ys)
+  carry_typed : (n : Name → ℕ) (ports : Ports) (of : Arities) (d k : ℕ) (ys : List Name) → Listed k (carry_arities of ys) → ((y : Name) → IsAmong y ys → NameOf (ports y) (of y)) → AllTyped k (carry n ports d k ys)
   carry_typed n ports of d k [] h names = tt
   carry_typed n ports of d k (y ∷ ys) h names =
       let a = names y (inl refl) in
@@ -166,11 +171,11 @@ module _ (arity : ℕ → ℕ) where
   -- ---- relations
 
   abbrev Claim : Rel → Type 0
-  Claim r = (scope : Scope) (of : Arities) (d n : ℕ) → HasArity r scope d n → Agrees scope of → (ports : Ports) (k : ℕ) → Listed k (made_arities r of) → ((y : Name) → IsAmong y (free r) → NameOf (ports y) (of y)) → Typed k (lower r ports d k) n
+  Claim r = (scope : Scope) (of : Arities) (d n : ℕ) → HasArity r scope d n → Agrees scope of → (ports : Ports) (once : List Name) (k : ℕ) → Listed k (made_arities r of) → ((y : Name) → IsAmong y (free r) → NameOf (ports y) (of y)) → Typed k (lower r ports once d k) n
 
   loop_typed : (l : Loop) (m : ℕ) (x : Name) (r b : Rel) → Claim r → Claim b → Claim (Rel.loop l m x r b)
   unfolding HasArity made_arities lower
-  loop_typed l m x r b start_claim body_claim scope of d n t agrees ports k h names = record { all = all_typed-append k start.made made start_typed.all all; gives = at_end; fields = start_typed.fields }
+  loop_typed l m x r b start_claim body_claim scope of d n t agrees ports once k h names = record { all = all_typed-append k start.made made start_typed.all all; gives = at_end; fields = start_typed.fields }
     where
       a : ℕ
       a = rel_arity r of
@@ -179,7 +184,7 @@ module _ (arity : ℕ → ℕ) where
       is = rel_arity_typed r scope of d n t.2 agrees
 
       start : Lowered
-      start = lower r ports d k
+      start = lower r ports once d k
 
       loop : ℕ
       loop = k + length start.made
@@ -190,17 +195,20 @@ module _ (arity : ℕ → ℕ) where
       ys : List Name
       ys = carried x b
 
+      inner : List Name
+      inner = once_names l x b
+
       inside : Ports
       inside = stands_for x (port gate 0) (carried_ports ports (suc gate) ys)
 
       cs : List Vertex
-      cs = carry m ports d (suc gate) ys
+      cs = carry (held_turns m inner) ports d (suc gate) ys
 
       first : ℕ
       first = suc gate + length cs
 
       body : Lowered
-      body = lower b inside (suc d) first
+      body = lower b inside inner (suc d) first
 
       back : ℕ
       back = first + length body.made
@@ -209,7 +217,7 @@ module _ (arity : ℕ → ℕ) where
       ends = new_vertex Kind.feedback (suc d) (body.gives ∷ []) ∷ new_vertex Kind.egress (suc d) (port gate 1 ∷ []) ∷ []
 
       made : List Vertex
-      made = (looped l m loop start ports d ys body).made
+      made = (looped l m loop inner start ports d ys body).made
 
       after_body : List ℕ
       after_body = a ∷ a ∷ []
@@ -219,16 +227,16 @@ module _ (arity : ℕ → ℕ) where
 
       -- the arities of each part
       from_loop : Listed loop (a ∷ a ∷ a ∷ (carry_arities of ys ++ (in_body ++ after_body)))
-      from_loop = listed_right k (length start.made) (made_arities r of) _ (length-made_arities r of ports d k) h
+      from_loop = listed_right k (length start.made) (made_arities r of) _ (length-made_arities r of ports once d k) h
 
       from_first : Listed first (in_body ++ after_body)
-      from_first = listed_right (suc gate) (length cs) (carry_arities of ys) _ (length-carry_arities of m ports d (suc gate) ys) from_loop.1.1.1
+      from_first = listed_right (suc gate) (length cs) (carry_arities of ys) _ (length-carry_arities of (held_turns m inner) ports d (suc gate) ys) from_loop.1.1.1
 
       from_back : Listed back after_body
-      from_back = listed_right first (length body.made) in_body _ (length-made_arities b (with_arity x a of) inside (suc d) first) from_first
+      from_back = listed_right first (length body.made) in_body _ (length-made_arities b (with_arity x a of) inside inner (suc d) first) from_first
 
       start_typed : Typed k start n
-      start_typed = start_claim scope of d n t.2 agrees ports k (listed_left k (made_arities r of) _ h) (λ y j. names y (among_left y (free r) _ j))
+      start_typed = start_claim scope of d n t.2 agrees ports once k (listed_left k (made_arities r of) _ h) (λ y j. names y (among_left y (free r) _ j))
 
       outer_names : (y : Name) → IsAmong y ys → NameOf (ports y) (of y)
       outer_names y j = names y (among_right y (free r) (filter (other_than x) (free b)) (from_firsts y (filter (other_than x) (free b)) j))
@@ -244,7 +252,7 @@ module _ (arity : ℕ → ℕ) where
           go false e = carried_name ports of (suc gate) ys (listed_left (suc gate) (carry_arities of ys) _ from_loop.1.1.1) outer_names y (among_firsts y (filter (other_than x) (free b)) (among_others x y (free b) e j))
 
       body_typed : Typed first body n
-      body_typed = body_claim (entry x n ∷ scope) (with_arity x a of) (suc d) n t.4 (agrees_more scope of x n a is agrees) inside first (listed_left first in_body _ from_first) inner_names
+      body_typed = body_claim (entry x n ∷ scope) (with_arity x a of) (suc d) n t.4 (agrees_more scope of x n a is agrees) inside inner first (listed_left first in_body _ from_first) inner_names
 
       at_end : arity (suc back) ≡ n
       at_end = from_back.1.0 ∙ is
@@ -263,7 +271,7 @@ module _ (arity : ℕ → ℕ) where
           record { ports = (from_loop.1.0 ∙ sym from_loop.0, from_loop.1.0 ∙ sym from_back.0); fields = valid (suc loop) from_loop.1.0 },
           (
             gate_typed l,
-            all_typed-append (suc gate) cs (body.made ++ ends) (carry_typed m ports of d (suc gate) ys (listed_left (suc gate) (carry_arities of ys) _ from_loop.1.1.1) outer_names)
+            all_typed-append (suc gate) cs (body.made ++ ends) (carry_typed (held_turns m inner) ports of d (suc gate) ys (listed_left (suc gate) (carry_arities of ys) _ from_loop.1.1.1) outer_names)
                 (all_typed-append first body.made ends body_typed.all (
                   record { ports = from_back.0 ∙ is ∙ sym body_typed.gives; fields = valid back from_back.0 },
                   (record { ports = from_back.1.0 ∙ sym at_gate; fields = valid (suc back) from_back.1.0 }, tt),
@@ -274,56 +282,56 @@ module _ (arity : ℕ → ℕ) where
 
   pub relation_typed : (r : Rel) → Claim r
   unfolding HasArity made_arities lower
-  relation_typed (Rel.named x) scope of d n t agrees ports k h names =
+  relation_typed (Rel.named x) scope of d n t agrees ports once k h names =
       let a = names x (inl refl) in
       let e : of x ≡ n = agrees x n t in
       record { all = tt; gives = a.has ∙ e; fields = subst IsArity e a.fields }
-  relation_typed (Rel.select r ss) scope of d n t agrees ports k h names =
+  relation_typed (Rel.select r ss) scope of d n t agrees ports once k h names =
       let e : n ≡ length ss = t.3 in
-      one_typed k t.0 n (lower r ports d k) (Kind.select ss) d (made_arities r of) (relation_typed r scope of d t.0 t.1 agrees ports k (listed_left k (made_arities r of) _ h) names) (length-made_arities r of ports d k) (subst (λ a. Listed k (made_arities r of ++ (a ∷ []))) (sym e) h)
+      one_typed k t.0 n (lower r ports once d k) (Kind.select ss) d (made_arities r of) (relation_typed r scope of d t.0 t.1 agrees ports once k (listed_left k (made_arities r of) _ h) names) (length-made_arities r of ports once d k) (subst (λ a. Listed k (made_arities r of ++ (a ∷ []))) (sym e) h)
       (λ ins q. (subst (λ m. AllByRecursion (ScalarFits m) ss) (sym q) t.2, e)) t.4
-  relation_typed (Rel.filter r c) scope of d n t agrees ports k h names =
+  relation_typed (Rel.filter r c) scope of d n t agrees ports once k h names =
       let e : rel_arity r of ≡ n = rel_arity_typed r scope of d n t.0 agrees in
-      let ih = relation_typed r scope of d n t.0 agrees ports k (listed_left k (made_arities r of) _ h) names in
-      one_typed k n n (lower r ports d k) (Kind.filter c) d (made_arities r of) ih (length-made_arities r of ports d k) (subst (λ a. Listed k (made_arities r of ++ (a ∷ []))) e h)
+      let ih = relation_typed r scope of d n t.0 agrees ports once k (listed_left k (made_arities r of) _ h) names in
+      one_typed k n n (lower r ports once d k) (Kind.filter c) d (made_arities r of) ih (length-made_arities r of ports once d k) (subst (λ a. Listed k (made_arities r of ++ (a ∷ []))) e h)
       (λ ins q. (subst (λ m. CondFits m c) (sym q) t.1, sym q)) ih.fields
-  relation_typed (Rel.concat p q) scope of d n t agrees ports k h names =
-      let a = lower p ports d k in
+  relation_typed (Rel.concat p q) scope of d n t agrees ports once k h names =
+      let a = lower p ports once d k in
       let e : rel_arity p of ≡ n = rel_arity_typed p scope of d n t.0 agrees in
-      let left = relation_typed p scope of d n t.0 agrees ports k (listed_left k (made_arities p of) _ h) (λ y j. names y (among_left y (free p) (free q) j)) in
-      let right = relation_typed q scope of d n t.1 agrees ports (k + length a.made) (listed_left (k + length a.made) (made_arities q of) _ (listed_right k (length a.made) (made_arities p of) _ (length-made_arities p of ports d k) h)) (λ y j. names y (among_right y (free p) (free q) j)) in
-      two_typed k n n n a (lower q ports d (k + length a.made)) Kind.concat d (made_arities p of) (made_arities q of) left right (length-made_arities p of ports d k) (length-made_arities q of ports d (k + length a.made)) (subst (λ z. Listed k (made_arities p of ++ (made_arities q of ++ (z ∷ [])))) e h)
+      let left = relation_typed p scope of d n t.0 agrees ports once k (listed_left k (made_arities p of) _ h) (λ y j. names y (among_left y (free p) (free q) j)) in
+      let right = relation_typed q scope of d n t.1 agrees ports once (k + length a.made) (listed_left (k + length a.made) (made_arities q of) _ (listed_right k (length a.made) (made_arities p of) _ (length-made_arities p of ports once d k) h)) (λ y j. names y (among_right y (free p) (free q) j)) in
+      two_typed k n n n a (lower q ports once d (k + length a.made)) Kind.concat d (made_arities p of) (made_arities q of) left right (length-made_arities p of ports once d k) (length-made_arities q of ports once d (k + length a.made)) (subst (λ z. Listed k (made_arities p of ++ (made_arities q of ++ (z ∷ [])))) e h)
       (λ ins x y. (sym x, sym y)) left.fields
-  relation_typed (Rel.join p q ps) scope of d n t agrees ports k h names =
-      let a = lower p ports d k in
+  relation_typed (Rel.join p q ps) scope of d n t agrees ports once k h names =
+      let a = lower p ports once d k in
       let e : rel_arity p of + rel_arity q of ≡ n = rel_arity_typed (Rel.join p q ps) scope of d n t agrees in
-      let left = relation_typed p scope of d t.0 t.2 agrees ports k (listed_left k (made_arities p of) _ h) (λ y j. names y (among_left y (free p) (free q) j)) in
-      let right = relation_typed q scope of d t.1 t.3 agrees ports (k + length a.made) (listed_left (k + length a.made) (made_arities q of) _ (listed_right k (length a.made) (made_arities p of) _ (length-made_arities p of ports d k) h)) (λ y j. names y (among_right y (free p) (free q) j)) in
-      two_typed k t.0 t.1 n a (lower q ports d (k + length a.made)) (Kind.join ps) d (made_arities p of) (made_arities q of) left right (length-made_arities p of ports d k) (length-made_arities q of ports d (k + length a.made)) (subst (λ z. Listed k (made_arities p of ++ (made_arities q of ++ (z ∷ [])))) e h)
-      (λ ins x y. (subst (λ l. AllByRecursion (λ (z : Pair). (z.left < l) × (z.right < ins 1)) ps) (sym x) (subst (λ m. AllByRecursion (λ (z : Pair). (z.left < t.0) × (z.right < m)) ps) (sym y) t.4), t.5 ∙ ap₂ (λ l m. l + m) (sym x) (sym y))) t.6
-  relation_typed (Rel.group r ks as') scope of d n t agrees ports k h names =
+      let left = relation_typed p scope of d t.0 t.2 agrees ports once k (listed_left k (made_arities p of) _ h) (λ y j. names y (among_left y (free p) (free q) j)) in
+      let right = relation_typed q scope of d t.1 t.3 agrees ports once (k + length a.made) (listed_left (k + length a.made) (made_arities q of) _ (listed_right k (length a.made) (made_arities p of) _ (length-made_arities p of ports once d k) h)) (λ y j. names y (among_right y (free p) (free q) j)) in
+      two_typed k t.0 t.1 n a (lower q ports once d (k + length a.made)) (join_kind (is_lookup q once) ps) d (made_arities p of) (made_arities q of) left right (length-made_arities p of ports once d k) (length-made_arities q of ports once d (k + length a.made)) (subst (λ z. Listed k (made_arities p of ++ (made_arities q of ++ (z ∷ [])))) e h)
+      (λ ins x y. join_fits (is_lookup q once) ps ins n (subst (λ l. AllByRecursion (λ (z : Pair). (z.left < l) × (z.right < ins 1)) ps) (sym x) (subst (λ m. AllByRecursion (λ (z : Pair). (z.left < t.0) × (z.right < m)) ps) (sym y) t.4)) (t.5 ∙ ap₂ (λ l m. l + m) (sym x) (sym y))) t.6
+  relation_typed (Rel.group r ks as') scope of d n t agrees ports once k h names =
       let e : n ≡ length ks + length as' = t.4 in
-      one_typed k t.0 n (lower r ports d k) (Kind.group ks as') d (made_arities r of) (relation_typed r scope of d t.0 t.1 agrees ports k (listed_left k (made_arities r of) _ h) names) (length-made_arities r of ports d k) (subst (λ a. Listed k (made_arities r of ++ (a ∷ []))) (sym e) h)
+      one_typed k t.0 n (lower r ports once d k) (Kind.group ks as') d (made_arities r of) (relation_typed r scope of d t.0 t.1 agrees ports once k (listed_left k (made_arities r of) _ h) names) (length-made_arities r of ports once d k) (subst (λ a. Listed k (made_arities r of ++ (a ∷ []))) (sym e) h)
       (λ ins q. (subst (λ m. AllByRecursion (λ (c : ℕ). c < m) ks) (sym q) t.2, subst (λ m. AllByRecursion (AggFits m) as') (sym q) t.3, e)) t.5
-  relation_typed (Rel.distinct r) scope of d n t agrees ports k h names =
+  relation_typed (Rel.distinct r) scope of d n t agrees ports once k h names =
       let e : rel_arity r of ≡ n = rel_arity_typed r scope of d n t agrees in
-      let ih = relation_typed r scope of d n t agrees ports k (listed_left k (made_arities r of) _ h) names in
-      one_typed k n n (lower r ports d k) Kind.distinct d (made_arities r of) ih (length-made_arities r of ports d k) (subst (λ a. Listed k (made_arities r of ++ (a ∷ []))) e h) (λ ins q. sym q) ih.fields
-  relation_typed (Rel.except p q) scope of d n t agrees ports k h names =
-      let a = lower p ports d k in
+      let ih = relation_typed r scope of d n t agrees ports once k (listed_left k (made_arities r of) _ h) names in
+      one_typed k n n (lower r ports once d k) Kind.distinct d (made_arities r of) ih (length-made_arities r of ports once d k) (subst (λ a. Listed k (made_arities r of ++ (a ∷ []))) e h) (λ ins q. sym q) ih.fields
+  relation_typed (Rel.except p q) scope of d n t agrees ports once k h names =
+      let a = lower p ports once d k in
       let e : rel_arity p of ≡ n = rel_arity_typed p scope of d n t.0 agrees in
-      let left = relation_typed p scope of d n t.0 agrees ports k (listed_left k (made_arities p of) _ h) (λ y j. names y (among_left y (free p) (free q) j)) in
-      let right = relation_typed q scope of d n t.1 agrees ports (k + length a.made) (listed_left (k + length a.made) (made_arities q of) _ (listed_right k (length a.made) (made_arities p of) _ (length-made_arities p of ports d k) h)) (λ y j. names y (among_right y (free p) (free q) j)) in
-      two_typed k n n n a (lower q ports d (k + length a.made)) Kind.except d (made_arities p of) (made_arities q of) left right (length-made_arities p of ports d k) (length-made_arities q of ports d (k + length a.made)) (subst (λ z. Listed k (made_arities p of ++ (made_arities q of ++ (z ∷ [])))) e h)
+      let left = relation_typed p scope of d n t.0 agrees ports once k (listed_left k (made_arities p of) _ h) (λ y j. names y (among_left y (free p) (free q) j)) in
+      let right = relation_typed q scope of d n t.1 agrees ports once (k + length a.made) (listed_left (k + length a.made) (made_arities q of) _ (listed_right k (length a.made) (made_arities p of) _ (length-made_arities p of ports once d k) h)) (λ y j. names y (among_right y (free p) (free q) j)) in
+      two_typed k n n n a (lower q ports once d (k + length a.made)) Kind.except d (made_arities p of) (made_arities q of) left right (length-made_arities p of ports once d k) (length-made_arities q of ports once d (k + length a.made)) (subst (λ z. Listed k (made_arities p of ++ (made_arities q of ++ (z ∷ [])))) e h)
       (λ ins x y. (sym x, sym y)) left.fields
-  relation_typed (Rel.intersect p q) scope of d n t agrees ports k h names =
-      let a = lower p ports d k in
+  relation_typed (Rel.intersect p q) scope of d n t agrees ports once k h names =
+      let a = lower p ports once d k in
       let e : rel_arity p of ≡ n = rel_arity_typed p scope of d n t.0 agrees in
-      let left = relation_typed p scope of d n t.0 agrees ports k (listed_left k (made_arities p of) _ h) (λ y j. names y (among_left y (free p) (free q) j)) in
-      let right = relation_typed q scope of d n t.1 agrees ports (k + length a.made) (listed_left (k + length a.made) (made_arities q of) _ (listed_right k (length a.made) (made_arities p of) _ (length-made_arities p of ports d k) h)) (λ y j. names y (among_right y (free p) (free q) j)) in
-      two_typed k n n n a (lower q ports d (k + length a.made)) Kind.intersect d (made_arities p of) (made_arities q of) left right (length-made_arities p of ports d k) (length-made_arities q of ports d (k + length a.made)) (subst (λ z. Listed k (made_arities p of ++ (made_arities q of ++ (z ∷ [])))) e h)
+      let left = relation_typed p scope of d n t.0 agrees ports once k (listed_left k (made_arities p of) _ h) (λ y j. names y (among_left y (free p) (free q) j)) in
+      let right = relation_typed q scope of d n t.1 agrees ports once (k + length a.made) (listed_left (k + length a.made) (made_arities q of) _ (listed_right k (length a.made) (made_arities p of) _ (length-made_arities p of ports once d k) h)) (λ y j. names y (among_right y (free p) (free q) j)) in
+      two_typed k n n n a (lower q ports once d (k + length a.made)) Kind.intersect d (made_arities p of) (made_arities q of) left right (length-made_arities p of ports once d k) (length-made_arities q of ports once d (k + length a.made)) (subst (λ z. Listed k (made_arities p of ++ (made_arities q of ++ (z ∷ [])))) e h)
       (λ ins x y. (sym x, sym y)) left.fields
-  relation_typed (Rel.loop l m x r b) scope of d n t agrees ports k h names = loop_typed l m x r b (relation_typed r) (relation_typed b) scope of d n t agrees ports k h names
+  relation_typed (Rel.loop l m x r b) scope of d n t agrees ports once k h names = loop_typed l m x r b (relation_typed r) (relation_typed b) scope of d n t agrees ports once k h names
 
   -- ---- programs
 
@@ -344,10 +352,10 @@ module _ (arity : ℕ → ℕ) where
   unfolding lower_lets
   length-lets_made [] of ports k = refl
   length-lets_made (a ∷ as') of ports k =
-      let r = lower a.value ports 0 k in
+      let r = lower a.value ports [] 0 k in
       let of' = with_arity a.name (rel_arity a.value of) of in
       let ports' = stands_for a.name r.gives ports in
-      omega (arith, length-made_arities a.value of ports 0 k, length-lets_made as' of' ports' (k + length r.made), length-append (made_arities a.value of) (lets_made_arities as' of'), length-append r.made (lower_lets as' ports' (k + length r.made)).made)
+      omega (arith, length-made_arities a.value of ports [] 0 k, length-lets_made as' of' ports' (k + length r.made), length-append (made_arities a.value of) (lets_made_arities as' of'), length-append r.made (lower_lets as' ports' (k + length r.made)).made)
 
   -- what the lets guarantee to the outputs
   pub record AfterLets (as' : List Let) (of : Arities) (ports : Ports) (k : ℕ) (xs : List Name) (outs : List Output) (ns : List ℕ) : Type 0 where
@@ -361,12 +369,12 @@ module _ (arity : ℕ → ℕ) where
   unfolding lower_lets
   lets_typed [] outs ns xs scope of ports k m t agrees h names = record { all = tt; names = names; scope = scope; agrees = agrees; outputs = t }
   lets_typed (a ∷ as') outs ns xs scope of ports k m t agrees h names =
-      let r = lower a.value ports 0 k in
+      let r = lower a.value ports [] 0 k in
       let e : rel_arity a.value of ≡ t.0 = rel_arity_typed a.value scope of 0 t.0 t.1 agrees in
       let of' = with_arity a.name (rel_arity a.value of) of in
-      let here : Typed k r t.0 = relation_typed a.value scope of 0 t.0 t.1 agrees ports k (listed_left k (made_arities a.value of) _ h) (λ y j. names y (m.0.known y j)) in
+      let here : Typed k r t.0 = relation_typed a.value scope of 0 t.0 t.1 agrees ports [] k (listed_left k (made_arities a.value of) _ h) (λ y j. names y (m.0.known y j)) in
       let later : AfterLets as' of' (stands_for a.name r.gives ports) (k + length r.made) (a.name ∷ xs) outs ns = lets_typed as' outs ns (a.name ∷ xs) (entry a.name t.0 ∷ scope) of' (stands_for a.name r.gives ports) (k + length r.made) m.1 t.3 (agrees_more scope of a.name t.0 (rel_arity a.value of) e agrees)
-      (listed_right k (length r.made) (made_arities a.value of) _ (length-made_arities a.value of ports 0 k) h) (λ y j. go y r t.0 here e (same_name a.name y) refl j) in
+      (listed_right k (length r.made) (made_arities a.value of) _ (length-made_arities a.value of ports [] 0 k) h) (λ y j. go y r t.0 here e (same_name a.name y) refl j) in
       record { all = all_typed-append k r.made _ here.all later.all; names = later.names; scope = later.scope; agrees = later.agrees; outputs = later.outputs }
     where
       go : (y : Name) (r : Lowered) (m : ℕ) → Typed k r m → rel_arity a.value of ≡ m → (b : Bool) → same_name a.name y ≡ b → (a.name ≡ y) ⊎ IsAmong y xs → NameOf (cond b r.gives (ports y)) (cond b (rel_arity a.value of) (of y))
@@ -386,11 +394,11 @@ module _ (arity : ℕ → ℕ) where
   outputs_typed [] (n ∷ ns) xs scope before of ports k m t agrees h names = absurd t
   outputs_typed (o ∷ os) [] xs scope before of ports k m t agrees h names = absurd t
   outputs_typed (o ∷ os) (n ∷ ns) xs scope before of ports k m t agrees h names =
-      let r = lower o.value ports 0 k in
+      let r = lower o.value ports [] 0 k in
       let w = k + length r.made in
       let end = new_vertex Kind.output 0 (r.gives ∷ []) in
-      let here : Typed k r n = relation_typed o.value scope of 0 n t.0 agrees ports k (listed_left k (made_arities o.value of) _ h) (λ y j. names y (m.0.known y j)) in
-      let after = listed_right k (length r.made) (made_arities o.value of) (rel_arity o.value of ∷ outputs_made_arities os of) (length-made_arities o.value of ports 0 k) h in
+      let here : Typed k r n = relation_typed o.value scope of 0 n t.0 agrees ports [] k (listed_left k (made_arities o.value of) _ h) (λ y j. names y (m.0.known y j)) in
+      let after = listed_right k (length r.made) (made_arities o.value of) (rel_arity o.value of ∷ outputs_made_arities os of) (length-made_arities o.value of ports [] 0 k) h in
       let is : arity w ≡ n = after.0 ∙ rel_arity_typed o.value scope of 0 n t.0 agrees in
       let typed : TypedAs w end = record { ports = is ∙ sym here.gives; fields = subst IsArity (sym is) here.fields } in
       let later = outputs_typed os ns xs scope (entry o.name n ∷ before) of ports (suc w) m.1 t.2 agrees after.1 names in

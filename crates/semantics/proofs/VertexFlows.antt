@@ -5,10 +5,14 @@ use Rattle.semantics.specs.Flow.{Inputs, Flow, IsFlow, sent_or_fed, port_flow}
 use Rattle.semantics.specs.Kinds.{Kind}
 use Rattle.semantics.specs.Graph.{Port, Vertex, Graph, no_port, vertex, source}
 use Rattle.semantics.specs.Lower.{port, new_vertex}
-use Rattle.semantics.specs.Meaning.{only_left}
+use Rattle.semantics.specs.Meaning.{only_left, paired}
+use Rattle.semantics.specs.Query.{Pair}
+use Rattle.std.specs.List.{AllByRecursion}
 use Rattle.semantics.specs.Time.{Time, earlier_turns, last_from, front_from, last, front, deeper, outer, in_first_turn, turn_count, below}
 use Rattle.semantics.proofs.MultisetSums.{≈-refl, ≈-trans, ≈-from, append_same}
 use Rattle.semantics.proofs.ExceptAndIntersect.{only_left_same}
+use Rattle.semantics.proofs.KeyedParts.{paired_same}
+use Rattle.semantics.proofs.OneFlow.{IsLower, earlier_all_lower, flat_same}
 
 -- ---- the last counter
 
@@ -92,6 +96,21 @@ module _ (g : Graph) (inputs : Inputs) (f : Flow) (flow : IsFlow g inputs f) whe
   pub out_two : (w d : ℕ) (p q : Port) (u : Time) → IsAt g w (new_vertex Kind.concat d (p ∷ q ∷ [])) → length u.counters ≡ d → out (port w 0) u ≈ (out p u ++ out q u)
   out_two w d p q u at l = ≈-trans (≈-from (out_at w 0 (new_vertex Kind.concat d (p ∷ q ∷ [])) u at ∙ append-nil (f w 0 u ++ f w 1 u)))
       (append_same (f w 0 u) (out p u) (f w 1 u) (out q u) (edge_at w (new_vertex Kind.concat d (p ∷ q ∷ [])) at 0 u (omega arith) l) (edge_at w (new_vertex Kind.concat d (p ∷ q ∷ [])) at 1 u (omega arith) l))
+
+  -- what comes to an in port at the earlier turns
+  earlier_in : (w : ℕ) (v : Vertex) → IsAt g w v → (i : ℕ) (u : Time) → i < length v.ins → length u.counters ≡ v.depth → flat_map (f w i) (earlier_turns u) ≈ flat_map (out (slice_index_or v.ins i no_port)) (earlier_turns u)
+  earlier_in w v at i u l d = flat_same (f w i) (out (slice_index_or v.ins i no_port)) (λ t. length t.counters ≡ v.depth) (earlier_turns u) (all_deep (earlier_turns u) (earlier_all_lower (λ n. u.counters) 0 u refl)) (λ t e. edge_at w v at i t l e)
+    where
+      all_deep : (ts : List Time) → AllByRecursion (IsLower (λ n. u.counters) 0 u) ts → AllByRecursion (λ t. length t.counters ≡ v.depth) ts
+      all_deep [] a = tt
+      all_deep (t ∷ ts) a = (a.0.0 ∙ d, all_deep ts a.1)
+
+  pub out_lookup : (w d : ℕ) (ps : List Pair) (p q : Port) (u : Time) → IsAt g w (new_vertex (Kind.lookup ps) d (p ∷ q ∷ [])) → length u.counters ≡ d → out (port w 0) u ≈ paired ps (out p u) (out q u ++ flat_map (out q) (earlier_turns u))
+  out_lookup w d ps p q u at l =
+      let v = new_vertex (Kind.lookup ps) d (p ∷ q ∷ []) in
+      ≈-trans (≈-from (out_at w 0 v u at ∙ append-nil (paired ps (f w 0 u) (f w 1 u ++ flat_map (f w 1) (earlier_turns u)))))
+      (paired_same ps (f w 0 u) (out p u) (f w 1 u ++ flat_map (f w 1) (earlier_turns u)) (out q u ++ flat_map (out q) (earlier_turns u)) (edge_at w v at 0 u (omega arith) l)
+      (append_same (f w 1 u) (out q u) (flat_map (f w 1) (earlier_turns u)) (flat_map (out q) (earlier_turns u)) (edge_at w v at 1 u (omega arith) l) (earlier_in w v at 1 u (omega arith) l)))
 
   cond_in : (b : Bool) (xs ys : List Record) → xs ≈ ys → (cond b xs [] ++ []) ≈ cond b ys []
   cond_in true xs ys h = ≈-trans (≈-from (append-nil xs)) h

@@ -3,11 +3,12 @@ use Rattle.std.proofs.Common.{◌≡◌, ℕ, zero, suc, ◌+◌, ◌<◌, nat_l
 use Rattle.semantics.specs.Multiset.{Record, same, one_if, count, ◌≈◌, end_to_end}
 use Rattle.semantics.specs.Op.{HasNoCommonKey, IsCut, IsSum, places, op}
 use Rattle.semantics.specs.Kinds.{route_key, Kind}
-use Rattle.semantics.specs.Meaning.{project, left_columns, right_columns, selected, kept, only_left, holds, value}
+use Rattle.semantics.specs.Meaning.{paired, project, left_columns, right_columns, selected, kept, only_left, holds, value}
+use Rattle.semantics.specs.Query.{Pair}
 use Rattle.semantics.specs.Time.{Time, last}
 use Rattle.semantics.proofs.MultisetSums.{≈-refl, ≈-trans, ≈-from, append_same, total-append, total-map, linear_sum, map_linear, filter_linear}
 use Rattle.semantics.proofs.ExceptAndIntersect.{only_left_cut, in_both_cut}
-use Rattle.semantics.proofs.KeyedParts.{paired_cut, distinct_cut, grouped_cut}
+use Rattle.semantics.proofs.KeyedParts.{paired_same, paired_cut, distinct_cut, grouped_cut}
 use Rattle.semantics.proofs.OneFlow.{cond_same, op_same}
 
 either : (b : Bool) → cond {A = List Record} b [] [] ≡ []
@@ -27,6 +28,7 @@ op_nothing Kind.feedback t out = refl
 op_nothing (Kind.select ss) t out = refl
 op_nothing (Kind.filter c) t out = refl
 op_nothing (Kind.join ps) t out = refl
+op_nothing (Kind.lookup ps) t out = refl
 op_nothing (Kind.group ks as') t out = refl
 op_nothing (Kind.gate n) t zero = either (nat_lt (last t.counters) n)
 op_nothing (Kind.gate n) t (suc out) = either (nat_eq (last t.counters) n)
@@ -51,6 +53,35 @@ cond_sum : (b : Bool) (xs ys : List Record) → cond b (xs ++ ys) [] ≈ (cond b
 cond_sum true xs ys = ≈-refl (xs ++ ys)
 cond_sum false xs ys = ≈-refl []
 
+key_in : (f : Record → Record) (k : Record) (xs ys : List Record) → 0 < count k (map f (xs ++ ys)) → (0 < count k (map f xs)) ⊎ (0 < count k (map f ys))
+key_in f k xs ys h = go (count k (map f xs)) refl
+  where
+    c : Record → ℕ
+    c x = one_if (same x k)
+
+    split : count k (map f (xs ++ ys)) ≡ count k (map f xs) + count k (map f ys)
+    split = total-map c f (xs ++ ys) ∙ total-append (λ x. c (f x)) xs ys ∙ (let a = total-map c f xs in let b = total-map c f ys in omega (arith, a, b))
+
+    go : (n : ℕ) → count k (map f xs) ≡ n → (0 < n) ⊎ (0 < count k (map f ys))
+    go zero e = inr (omega (arith, split))
+    go (suc n) e = inl (omega arith)
+
+no_key_more : (f g : Record → Record) (xs ys zs : List Record) → HasNoCommonKey f g xs ys → HasNoCommonKey f g xs zs → HasNoCommonKey f g xs (ys ++ zs)
+no_key_more f g xs ys zs h h' = record { never = λ k a b. go k a (key_in g k ys zs b) }
+  where
+    go : (k : Record) → 0 < count k (map f xs) → (0 < count k (map g ys)) ⊎ (0 < count k (map g zs)) → ⊥
+    go k a (inl b) = h.never k a b
+    go k a (inr b) = h'.never k a b
+
+lookup_two : (ps : List Pair) (xs ys : ℕ → List Record) → InTwo (Kind.lookup ps) xs ys → paired ps (xs 0 ++ ys 0) ((xs 1 ++ ys 1) ++ (xs 2 ++ ys 2)) ≈ (paired ps (xs 0) (xs 1 ++ xs 2) ++ paired ps (ys 0) (ys 1 ++ ys 2))
+lookup_two ps xs ys h =
+    let f = project (left_columns ps) in
+    let g = project (right_columns ps) in
+    let a = h 0 1 (omega arith) (omega arith) f g refl refl in
+    let b = h 0 2 (omega arith) (omega arith) f g refl refl in
+    ≈-trans (paired_same ps (xs 0 ++ ys 0) (xs 0 ++ ys 0) _ _ (≈-refl (xs 0 ++ ys 0)) (crossed (xs 1) (xs 2) (ys 1) (ys 2)))
+    (paired_cut ps (xs 0) (ys 0) (xs 1 ++ xs 2) (ys 1 ++ ys 2) (no_key_more f g (xs 0) (ys 1) (ys 2) a.0 b.0) (no_key_more f g (ys 0) (xs 1) (xs 2) a.1 b.1))
+
 unseen_two : (n : ℕ) (xs ys : ℕ → List Record) → InTwo (Kind.unseen n) xs ys → only_left (xs 0 ++ ys 0) (xs 1 ++ ys 1) ≈ (only_left (xs 0) (xs 1) ++ only_left (ys 0) (ys 1))
 unseen_two n xs ys h = only_left_cut (xs 0) (ys 0) (xs 1) (ys 1) (h 0 0 (omega arith) (omega arith) (λ r. r) (λ r. r) refl refl).0 (h 0 1 (omega arith) (omega arith) (λ r. r) (λ r. r) refl refl).0 (h 0 1 (omega arith) (omega arith) (λ r. r) (λ r. r) refl refl).1
 
@@ -67,6 +98,7 @@ op_two Kind.feedback t xs ys out h = ≈-refl (xs 0 ++ ys 0)
 op_two (Kind.select ss) t xs ys out h = linear_sum (selected ss) (map_linear (λ r. map (λ s. value s r) ss)) (xs 0) (ys 0)
 op_two (Kind.filter c) t xs ys out h = linear_sum (kept c) (filter_linear (holds c)) (xs 0) (ys 0)
 op_two (Kind.join ps) t xs ys out h = let a = h 0 1 (omega arith) (omega arith) (project (left_columns ps)) (project (right_columns ps)) refl refl in paired_cut ps (xs 0) (ys 0) (xs 1) (ys 1) a.0 a.1
+op_two (Kind.lookup ps) t xs ys out h = lookup_two ps xs ys h
 op_two (Kind.group ks as') t xs ys out h = grouped_cut ks as' (xs 0) (ys 0) (h 0 0 (omega arith) (omega arith) (project ks) (project ks) refl refl).0
 op_two (Kind.gate n) t xs ys zero h = cond_sum (nat_lt (last t.counters) n) (xs 0) (ys 0)
 op_two (Kind.gate n) t xs ys (suc out) h = cond_sum (nat_eq (last t.counters) n) (xs 0) (ys 0)
@@ -76,19 +108,6 @@ op_two (Kind.hold n) t xs ys zero h = cond_sum (nat_lt (last t.counters) n) (xs 
 op_two (Kind.hold n) t xs ys (suc out) h = cond_sum (nat_lt (last t.counters + 1) n) (xs 0) (ys 0)
 
 -- ---- any number of parts
-
-key_in : (f : Record → Record) (k : Record) (xs ys : List Record) → 0 < count k (map f (xs ++ ys)) → (0 < count k (map f xs)) ⊎ (0 < count k (map f ys))
-key_in f k xs ys h = go (count k (map f xs)) refl
-  where
-    c : Record → ℕ
-    c x = one_if (same x k)
-
-    split : count k (map f (xs ++ ys)) ≡ count k (map f xs) + count k (map f ys)
-    split = total-map c f (xs ++ ys) ∙ total-append (λ x. c (f x)) xs ys ∙ (let a = total-map c f xs in let b = total-map c f ys in omega (arith, a, b))
-
-    go : (n : ℕ) → count k (map f xs) ≡ n → (0 < n) ⊎ (0 < count k (map f ys))
-    go zero e = inr (omega (arith, split))
-    go (suc n) e = inl (omega arith)
 
 joined_left : (f g : Record → Record) (parts : ℕ → List Record) (ys : List Record) (n : ℕ) → ((i : ℕ) → i < n → HasNoCommonKey f g (parts i) ys) → HasNoCommonKey f g (end_to_end parts n) ys
 joined_left f g parts ys zero h = record { never = λ k a b. omega arith }

@@ -1,13 +1,13 @@
 -- What the equation of a vertex makes of what it reads.
-use Rattle.std.proofs.Common.{◌≡◌, ℕ, zero, suc, ◌+◌, ◌<◌, nat_lt, Bool, true, false, cond, List, [], ◌∷◌, ◌++◌, flat_map, ◌⊎◌, inl, inr, refl, sym, ap, ◌∙◌, arith}
+use Rattle.std.proofs.Common.{◌≡◌, ℕ, zero, suc, ◌+◌, ◌-◌, ◌<◌, nat_lt, ltb-true, ltb-false, Bool, true, false, cond, List, [], ◌∷◌, ◌++◌, flat_map, ◌⊎◌, inl, inr, refl, sym, ap, ◌∙◌, arith}
 use Rattle.std.proofs.lemmas.Bool.{true≢false}
 use Rattle.semantics.specs.Multiset.{Record, same, one_if, count, ◌≈◌, IsAmong, end_to_end}
 use Rattle.semantics.specs.Kinds.{Kind, in_ports, route_key, looks_back}
-use Rattle.semantics.specs.Meaning.{only_left}
+use Rattle.semantics.specs.Meaning.{only_left, paired}
 use Rattle.semantics.specs.Op.{IsCut, places, reads_if, reads, op}
 use Rattle.semantics.specs.Time.{Time, last, earlier_turns}
 use Rattle.semantics.proofs.MultisetSums.{≈-refl, ≈-trans, ≈-from, append_same, total-append, empty_from_same}
-use Rattle.semantics.proofs.OneFlow.{op_same, one_port}
+use Rattle.semantics.proofs.OneFlow.{op_same, some_port}
 use Rattle.semantics.proofs.VertexLaws.{op_nothing, op_cut, crossed}
 
 -- ---- where it comes from
@@ -28,32 +28,40 @@ from_some f r (t ∷ ts) h = go (count r (f t)) refl (from_some f r ts)
     go zero e ih = let a = total-append (λ x. one_if (same x r)) (f t) (flat_map f ts) in ih (omega arith)
     go (suc n) e ih = (t, omega arith)
 
--- behind port 0 there is nothing else with a key
-back_key : (kind : Kind) → looks_back kind ≡ true → (p : ℕ) → route_key kind 0 ≡ route_key kind p
-back_key Kind.input e p = absurd (true≢false (sym e))
-back_key Kind.output e p = absurd (true≢false (sym e))
-back_key Kind.concat e p = absurd (true≢false (sym e))
-back_key Kind.distinct e p = absurd (true≢false (sym e))
-back_key Kind.except e p = absurd (true≢false (sym e))
-back_key Kind.intersect e p = absurd (true≢false (sym e))
-back_key Kind.ingress e p = absurd (true≢false (sym e))
-back_key Kind.egress e p = absurd (true≢false (sym e))
-back_key Kind.feedback e p = absurd (true≢false (sym e))
-back_key (Kind.select ss) e p = absurd (true≢false (sym e))
-back_key (Kind.filter c) e p = absurd (true≢false (sym e))
-back_key (Kind.join ps) e p = absurd (true≢false (sym e))
-back_key (Kind.group ks as') e p = absurd (true≢false (sym e))
-back_key (Kind.gate n) e p = absurd (true≢false (sym e))
-back_key (Kind.hold n) e p = absurd (true≢false (sym e))
-back_key (Kind.unseen n) e p = refl
+-- what is behind the last port has its key
+back_key : (kind : Kind) → looks_back kind ≡ true → route_key kind (in_ports kind - 1) ≡ route_key kind (in_ports kind)
+back_key Kind.input e = absurd (true≢false (sym e))
+back_key Kind.output e = absurd (true≢false (sym e))
+back_key Kind.concat e = absurd (true≢false (sym e))
+back_key Kind.distinct e = absurd (true≢false (sym e))
+back_key Kind.except e = absurd (true≢false (sym e))
+back_key Kind.intersect e = absurd (true≢false (sym e))
+back_key Kind.ingress e = absurd (true≢false (sym e))
+back_key Kind.egress e = absurd (true≢false (sym e))
+back_key Kind.feedback e = absurd (true≢false (sym e))
+back_key (Kind.select ss) e = absurd (true≢false (sym e))
+back_key (Kind.filter c) e = absurd (true≢false (sym e))
+back_key (Kind.join ps) e = absurd (true≢false (sym e))
+back_key (Kind.group ks as') e = absurd (true≢false (sym e))
+back_key (Kind.gate n) e = absurd (true≢false (sym e))
+back_key (Kind.hold n) e = absurd (true≢false (sym e))
+back_key (Kind.unseen n) e = refl
+back_key (Kind.lookup ps) e = refl
 
 pub read_from : (kind : Kind) (at : ℕ → Time → List Record) (t : Time) (p : ℕ) (r : Record) → p < places kind → 0 < count r (reads kind at t p) → ReadFrom kind at p r
-read_from kind at t p r l h = go (looks_back kind) refl p l h
+read_from kind at t p r l h = go (looks_back kind) refl l h
   where
-    go : (b : Bool) → looks_back kind ≡ b → (p : ℕ) → p < cond b (suc (in_ports kind)) (in_ports kind) → 0 < count r (reads_if b at t p) → ReadFrom kind at p r
-    go false e p l h = record { port = p; time = t; within = l; there = h; key = refl }
-    go true e zero l h = record { port = 0; time = t; within = let z = one_port kind e in omega arith; there = h; key = refl }
-    go true e (suc p) l h = let s = from_some (at 0) r (earlier_turns t) h in record { port = 0; time = s.0; within = let z = one_port kind e in omega arith; there = s.1; key = back_key kind e (suc p) }
+    behind : looks_back kind ≡ true → p < suc (in_ports kind) → (c : Bool) → nat_lt p (in_ports kind) ≡ c → 0 < count r (cond c (at p t) (flat_map (at (in_ports kind - 1)) (earlier_turns t))) → ReadFrom kind at p r
+    behind e l true q h = record { port = p; time = t; within = ltb-true p (in_ports kind) q; there = h; key = refl }
+    behind e l false q h =
+        let s = from_some (at (in_ports kind - 1)) r (earlier_turns t) h in
+        let z = some_port kind e in
+        let last : in_ports kind ≡ p = let y = ltb-false p (in_ports kind) q in omega arith in
+        record { port = in_ports kind - 1; time = s.0; within = omega arith; there = s.1; key = back_key kind e ∙ ap (route_key kind) last }
+
+    go : (b : Bool) → looks_back kind ≡ b → p < cond b (suc (in_ports kind)) (in_ports kind) → 0 < count r (reads_if b (in_ports kind) at t p) → ReadFrom kind at p r
+    go false e l h = record { port = p; time = t; within = l; there = h; key = refl }
+    go true e l h = behind e l (nat_lt p (in_ports kind)) refl h
 
 -- ---- where nothing comes at the time, nothing is made
 
@@ -80,6 +88,7 @@ op_of_nothing Kind.feedback t at out h = none_of Kind.feedback t (λ p. at p t) 
 op_of_nothing (Kind.select ss) t at out h = none_of (Kind.select ss) t (λ p. at p t) out h
 op_of_nothing (Kind.filter c) t at out h = none_of (Kind.filter c) t (λ p. at p t) out h
 op_of_nothing (Kind.join ps) t at out h = none_of (Kind.join ps) t (λ p. at p t) out h
+op_of_nothing (Kind.lookup ps) t at out h = ap (λ xs. paired ps xs (at 1 t ++ flat_map (at 1) (earlier_turns t))) (h 0 (omega arith))
 op_of_nothing (Kind.group ks as') t at out h = none_of (Kind.group ks as') t (λ p. at p t) out h
 op_of_nothing (Kind.gate n) t at out h = none_of (Kind.gate n) t (λ p. at p t) out h
 op_of_nothing (Kind.hold n) t at out h = none_of (Kind.hold n) t (λ p. at p t) out h
@@ -106,12 +115,16 @@ flat_parts f zero ts = ≈-from (flat_none ts)
 flat_parts f (suc n) ts = ≈-trans (flat_sum (λ t. end_to_end (λ k. f k t) n) (f n) ts) (append_same _ _ (flat_map (f n) ts) (flat_map (f n) ts) (flat_parts f n ts) (≈-refl (flat_map (f n) ts)))
 
 reads_sum : (kind : Kind) (part : ℕ → ℕ → Time → List Record) (m : ℕ) (t : Time) (p : ℕ) → reads kind (λ p s. end_to_end (λ k. part k p s) m) t p ≈ end_to_end (λ k. reads kind (part k) t p) m
-reads_sum kind part m t p = go (looks_back kind) p
+reads_sum kind part m t p = go (looks_back kind)
   where
-    go : (b : Bool) (p : ℕ) → reads_if b (λ p s. end_to_end (λ k. part k p s) m) t p ≈ end_to_end (λ k. reads_if b (part k) t p) m
-    go false p = ≈-refl _
-    go true zero = ≈-refl _
-    go true (suc p) = flat_parts (λ k s. part k 0 s) m (earlier_turns t)
+    behind : (c : Bool) → cond c (end_to_end (λ k. part k p t) m) (flat_map (λ s. end_to_end (λ k. part k (in_ports kind - 1) s) m) (earlier_turns t))
+        ≈ end_to_end (λ k. cond c (part k p t) (flat_map (part k (in_ports kind - 1)) (earlier_turns t))) m
+    behind true = ≈-refl _
+    behind false = flat_parts (λ k s. part k (in_ports kind - 1) s) m (earlier_turns t)
+
+    go : (b : Bool) → reads_if b (in_ports kind) (λ p s. end_to_end (λ k. part k p s) m) t p ≈ end_to_end (λ k. reads_if b (in_ports kind) (part k) t p) m
+    go false = ≈-refl _
+    go true = behind (nat_lt p (in_ports kind))
 
 pub op_of_parts : (kind : Kind) (t : Time) (part : ℕ → ℕ → Time → List Record) (n : ℕ) (out : ℕ) → IsCut kind (λ k. reads kind (part k) t) n → op kind t (reads kind (λ p s. end_to_end (λ k. part k p s) n) t) out ≈ end_to_end (λ k. op kind t (reads kind (part k) t) out) n
 op_of_parts kind t part n out cut =

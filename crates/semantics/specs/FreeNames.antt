@@ -1,7 +1,8 @@
 -- The names that a relation takes from outside, in the order of the text.
-use Rattle.std.specs.Prelude.{Bool, not, List, [], ◌∷◌, ◌++◌, filter}
+use Rattle.std.specs.Prelude.{Bool, true, false, not, cond, List, [], ◌∷◌, ◌++◌, filter}
+use Rattle.std.specs.List.{list_any}
 use Rattle.semantics.specs.Meaning.{same_name}
-use Rattle.semantics.specs.Query.{Name, Rel, Output}
+use Rattle.semantics.specs.Query.{Name, Loop, Rel, Output}
 
 -- y is a different name from x
 abbrev pub other_than : Name → Name → Bool
@@ -33,3 +34,40 @@ firsts (x ∷ xs) = x ∷ filter (other_than x) (firsts xs)
 -- the names that a loop's body takes from outside; x is the loop's variable
 abbrev pub carried : (x : Name) → (body : Rel) → List Name
 carried x b = firsts (filter (other_than x) (free b))
+
+-- ---- names that are only looked up
+
+-- the right side of a join: a name there, and nothing else, can be looked up
+abbrev pub looked_up : Rel → Bool
+looked_up (Rel.named x) = true
+looked_up (Rel.select r ss) = false
+looked_up (Rel.filter r c) = false
+looked_up (Rel.concat p q) = false
+looked_up (Rel.join p q ps) = false
+looked_up (Rel.group r ks as') = false
+looked_up (Rel.distinct r) = false
+looked_up (Rel.except p q) = false
+looked_up (Rel.intersect p q) = false
+looked_up (Rel.loop l n x r b) = false
+
+-- the free names whose records are needed at each time: all but those that are only looked up
+abbrev pub needed : Rel → List Name
+needed (Rel.named x) = x ∷ []
+needed (Rel.select r ss) = needed r
+needed (Rel.filter r c) = needed r
+needed (Rel.concat p q) = needed p ++ needed q
+needed (Rel.join p q ps) = needed p ++ cond (looked_up q) [] (needed q)
+needed (Rel.group r ks as') = needed r
+needed (Rel.distinct r) = needed r
+needed (Rel.except p q) = needed p ++ needed q
+needed (Rel.intersect p q) = needed p ++ needed q
+needed (Rel.loop l n x r b) = needed r ++ filter (other_than x) (free b)
+
+-- the name is among them
+abbrev pub has : Name → List Name → Bool
+has y xs = list_any (λ x. same_name x y) xs
+
+-- the names that a loop's body takes from outside and that come in once, since the body only looks them up; an iterate has all come at each turn
+abbrev pub once_names : Loop → (x : Name) → (body : Rel) → List Name
+once_names Loop.iterate x b = []
+once_names Loop.closure x b = filter (λ y. not (has y (needed b))) (carried x b)

@@ -6,13 +6,13 @@ use Rattle.semantics.specs.Multiset.{Record}
 use Rattle.semantics.specs.Meaning.{project, left_columns, right_columns}
 use Rattle.semantics.specs.Time.{Action}
 
--- A gate has the number of turns of its loop, and so has an unseen, which is the gate of a closure, and a hold, which keeps a name from outside for each
--- turn.
+-- A gate has the number of turns of its loop, and so has an unseen, which is the gate of a closure. A hold keeps a name from outside for that many turns. A
+-- lookup is a join whose second port is read over all turns so far.
 pub data Kind : Type 0 where
   input output concat distinct except intersect ingress egress feedback : Kind
   select : List Scalar → Kind
   filter : Cond → Kind
-  join : List Pair → Kind
+  join lookup : List Pair → Kind
   group : List ℕ → List Agg → Kind
   gate unseen hold : ℕ → Kind
 
@@ -24,6 +24,7 @@ in_ports (Kind.select ss) = 1
 in_ports (Kind.filter c) = 1
 in_ports Kind.concat = 2
 in_ports (Kind.join ps) = 2
+in_ports (Kind.lookup ps) = 2
 in_ports (Kind.group ks as') = 1
 in_ports Kind.distinct = 1
 in_ports Kind.except = 2
@@ -43,6 +44,7 @@ out_ports (Kind.select ss) = 1
 out_ports (Kind.filter c) = 1
 out_ports Kind.concat = 1
 out_ports (Kind.join ps) = 1
+out_ports (Kind.lookup ps) = 1
 out_ports (Kind.group ks as') = 1
 out_ports Kind.distinct = 1
 out_ports Kind.except = 1
@@ -62,6 +64,7 @@ action (Kind.select ss) = Action.stay
 action (Kind.filter c) = Action.stay
 action Kind.concat = Action.stay
 action (Kind.join ps) = Action.stay
+action (Kind.lookup ps) = Action.stay
 action (Kind.group ks as') = Action.stay
 action Kind.distinct = Action.stay
 action Kind.except = Action.stay
@@ -82,6 +85,8 @@ route_key (Kind.filter c) port = None
 route_key Kind.concat port = None
 route_key (Kind.join ps) zero = Some (project (left_columns ps))
 route_key (Kind.join ps) (suc port) = Some (project (right_columns ps))
+route_key (Kind.lookup ps) zero = Some (project (left_columns ps))
+route_key (Kind.lookup ps) (suc port) = Some (project (right_columns ps))
 route_key (Kind.group ks as') port = Some (project ks)
 route_key Kind.distinct port = Some (λ r. r)
 route_key Kind.except port = Some (λ r. r)
@@ -93,7 +98,7 @@ route_key (Kind.gate n) port = None
 route_key (Kind.unseen n) port = Some (λ r. r)
 route_key (Kind.hold n) port = None
 
--- it also reads what came to it in the earlier turns of its loop
+-- it also reads what came to its last port in the earlier turns of its loop
 abbrev pub looks_back : Kind → Bool
 looks_back Kind.input = false
 looks_back Kind.output = false
@@ -101,6 +106,7 @@ looks_back (Kind.select ss) = false
 looks_back (Kind.filter c) = false
 looks_back Kind.concat = false
 looks_back (Kind.join ps) = false
+looks_back (Kind.lookup ps) = true
 looks_back (Kind.group ks as') = false
 looks_back Kind.distinct = false
 looks_back Kind.except = false
@@ -120,6 +126,7 @@ ends_turn (Kind.select ss) = false
 ends_turn (Kind.filter c) = false
 ends_turn Kind.concat = false
 ends_turn (Kind.join ps) = false
+ends_turn (Kind.lookup ps) = false
 ends_turn (Kind.group ks as') = false
 ends_turn Kind.distinct = false
 ends_turn Kind.except = false
@@ -139,6 +146,7 @@ is_input (Kind.select ss) = false
 is_input (Kind.filter c) = false
 is_input Kind.concat = false
 is_input (Kind.join ps) = false
+is_input (Kind.lookup ps) = false
 is_input (Kind.group ks as') = false
 is_input Kind.distinct = false
 is_input Kind.except = false
@@ -158,6 +166,7 @@ is_output (Kind.select ss) = false
 is_output (Kind.filter c) = false
 is_output Kind.concat = false
 is_output (Kind.join ps) = false
+is_output (Kind.lookup ps) = false
 is_output (Kind.group ks as') = false
 is_output Kind.distinct = false
 is_output Kind.except = false
@@ -183,6 +192,7 @@ role (Kind.select ss) = Role.stateless
 role (Kind.filter c) = Role.stateless
 role Kind.concat = Role.stateless
 role (Kind.join ps) = Role.stateful
+role (Kind.lookup ps) = Role.notified
 role (Kind.group ks as') = Role.notified
 role Kind.distinct = Role.stateful
 role Kind.except = Role.notified

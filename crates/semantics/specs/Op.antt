@@ -1,6 +1,6 @@
 -- The equation of a vertex at one time: from a multiset for each in port to one for each out port. The vertices of a query's forms compute what the
--- forms mean; those of a loop depend on the last counter, and an unseen also on what came in earlier turns.
-use Rattle.std.specs.Prelude.{◌≡◌, ℕ, zero, suc, ◌+◌, ◌<◌, nat_lt, nat_eq, Bool, true, false, cond, List, [], ◌++◌, map, flat_map, Some}
+-- forms mean; those of a loop depend on the last counter, and an unseen and a lookup also on what came in earlier turns.
+use Rattle.std.specs.Prelude.{◌≡◌, ℕ, zero, suc, ◌+◌, ◌-◌, ◌<◌, nat_lt, nat_eq, Bool, true, false, cond, List, [], ◌++◌, map, flat_map, Some}
 use Rattle.semantics.specs.Multiset.{Record, count, ◌≈◌, each_once, end_to_end}
 use Rattle.semantics.specs.Meaning.{selected, kept, paired, grouped, only_left, in_both}
 use Rattle.semantics.specs.Time.{Time, last, earlier_turns}
@@ -10,20 +10,23 @@ use Rattle.semantics.specs.Kinds.{Kind, in_ports, route_key, looks_back}
 abbrev pub places : Kind → ℕ
 places kind = cond (looks_back kind) (suc (in_ports kind)) (in_ports kind)
 
+-- the port that comes to a place
+abbrev pub port_at : Kind → (place : ℕ) → ℕ
+port_at kind p = cond (nat_lt p (in_ports kind)) p (in_ports kind - 1)
+
 -- the other times of which it reads what came
 abbrev pub reads_back : Kind → Time → List Time
 reads_back kind t = cond (looks_back kind) (earlier_turns t) []
 
--- what is read at a time, if `at` is what comes to the in ports: what comes then, and behind port 0, if looking back, what came to it in the earlier
--- turns
-abbrev pub reads_if : (back : Bool) → (at : (port : ℕ) → Time → List Record) → Time → (place : ℕ) → List Record
-reads_if false at t p = at p t
-reads_if true at t zero = at 0 t
-reads_if true at t (suc p) = flat_map (at 0) (earlier_turns t)
+-- what is read at a time, if `at` is what comes to that many ports: what comes then and, if looking back, behind them what came to the last port in the
+-- earlier turns
+abbrev pub reads_if : (back : Bool) → (ports : ℕ) → (at : (port : ℕ) → Time → List Record) → Time → (place : ℕ) → List Record
+reads_if false ports at t p = at p t
+reads_if true ports at t p = cond (nat_lt p ports) (at p t) (flat_map (at (ports - 1)) (earlier_turns t))
 
 -- what the equation of a kind reads
 abbrev pub reads : Kind → (at : (port : ℕ) → Time → List Record) → Time → (place : ℕ) → List Record
-reads kind at t p = reads_if (looks_back kind) at t p
+reads kind at t p = reads_if (looks_back kind) (in_ports kind) at t p
 
 -- what a vertex of that kind makes of what it reads
 abbrev pub op : Kind → Time → (ins : ℕ → List Record) → (out : ℕ) → List Record
@@ -33,6 +36,7 @@ op (Kind.select ss) t ins out = selected ss (ins 0)
 op (Kind.filter c) t ins out = kept c (ins 0)
 op Kind.concat t ins out = ins 0 ++ ins 1
 op (Kind.join ps) t ins out = paired ps (ins 0) (ins 1)
+op (Kind.lookup ps) t ins out = paired ps (ins 0) (ins 1 ++ ins 2)
 op (Kind.group ks as') t ins out = grouped ks as' (ins 0)
 op Kind.distinct t ins out = each_once (ins 0)
 op Kind.except t ins out = only_left (ins 0) (ins 1)

@@ -21,6 +21,7 @@ PortsFit (Kind.select ss) ins out = AllByRecursion (ScalarFits (ins 0)) ss × (o
 PortsFit (Kind.filter c) ins out = CondFits (ins 0) c × (out ≡ ins 0)
 PortsFit Kind.concat ins out = (out ≡ ins 0) × (out ≡ ins 1)
 PortsFit (Kind.join ps) ins out = AllByRecursion (λ (x : Pair). (x.left < ins 0) × (x.right < ins 1)) ps × (out ≡ ins 0 + ins 1)
+PortsFit (Kind.lookup ps) ins out = AllByRecursion (λ (x : Pair). (x.left < ins 0) × (x.right < ins 1)) ps × (out ≡ ins 0 + ins 1)
 PortsFit (Kind.group ks as') ins out = AllByRecursion (λ k. k < ins 0) ks × AllByRecursion (AggFits (ins 0)) as' × (out ≡ length ks + length as')
 PortsFit Kind.distinct ins out = out ≡ ins 0
 PortsFit Kind.except ins out = (out ≡ ins 0) × (out ≡ ins 1)

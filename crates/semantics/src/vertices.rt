@@ -2,7 +2,7 @@ ghost use Rattle.std.specs.Prelude.{◌≡◌, ◌<◌, ◌↔◌, ◌&&◌, not
 ghost use Rattle.semantics.specs.Multiset.{Record, one_if, count, is_present, ◌≈◌, IsPartOf, end_to_end, less};
 ghost use Rattle.semantics.specs.Time.{Time};
 ghost use Rattle.semantics.specs.Kinds.{Kind, in_ports, role, Role};
-ghost use Rattle.semantics.specs.Op.{places, op, IsSum, IsCut};
+ghost use Rattle.semantics.specs.Op.{places, port_at, op, IsSum, IsCut};
 ghost use Rattle.semantics.specs.Shard.{SendsBy, SendsAtNotification};
 ghost use Rattle.semantics.specs.PortArity.{HaveFields, PortsFit};
 
@@ -19,7 +19,7 @@ pub fn law_vertex()
     ensures more { (kind : Kind) → (role kind ≡ Role.notified → ⊥) → (t : Time) (xs ys : ℕ → List Record) (out : ℕ) →
         ((i : ℕ) → i < in_ports kind → IsPartOf (xs i) (ys i)) → IsPartOf (op kind t xs out) (op kind t ys out) }
     ensures fields { (kind : Kind) (arity : ℕ → ℕ) (n : ℕ) → PortsFit kind arity n → (t : Time) (ins : ℕ → List Record) →
-        ((i : ℕ) → i < in_ports kind → HaveFields (arity i) (ins i)) → (out : ℕ) → HaveFields n (op kind t ins out) }
+        ((i : ℕ) → i < places kind → HaveFields (arity (port_at kind i)) (ins i)) → (out : ℕ) → HaveFields n (op kind t ins out) }
 {}
 
 /// Whatever a stateful shard had absorbed before and has absorbed now, it can send what is gained; and what it may send is one multiset for each out

@@ -78,6 +78,7 @@ few_ports (Kind.select ss) = omega arith
 few_ports (Kind.filter c) = omega arith
 few_ports Kind.concat = omega arith
 few_ports (Kind.join ps) = omega arith
+few_ports (Kind.lookup ps) = omega arith
 few_ports (Kind.group ks as') = omega arith
 few_ports Kind.distinct = omega arith
 few_ports Kind.except = omega arith

@@ -4,6 +4,7 @@ pub mod Fitting
 pub mod PortSets
 pub mod FirstTurns
 pub mod Loops
+mod Lookups
 pub mod Times
 pub mod Pairs
 pub mod Sending

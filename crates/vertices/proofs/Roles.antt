@@ -10,13 +10,14 @@ use Rattle.vertices.specs.Notified.{notified_kind}
 use Rattle.vertices.specs.Outs.{GoesOver}
 use Rattle.vertices.specs.Shards.{shard_kind}
 use Rattle.vertices.specs.declared.notified.Notified.{Notified}
-use Rattle.vertices.specs.declared.notified.Notified.TheVariants.{Group, Except, Unseen}
+use Rattle.vertices.specs.declared.notified.Notified.TheVariants.{Group, Except, Unseen, Lookup}
 use Rattle.vertices.specs.declared.shard.Shard.{Shard}
 
 notified_role : (s : Notified) → role (notified_kind s) ≡ Role.notified
 notified_role (Group s) = refl
 notified_role (Except s) = refl
 notified_role (Unseen s) = refl
+notified_role (Lookup s) = refl
 
 module _ (shard : Shard) (t : Time) (a : Absorbed) (port : ℕ) (batch : List Record) where
   pub goes_over : (kind : Kind) → kind ≡ shard_kind shard → GoesOver kind t a port batch → GoesOver (shard_kind shard) t a port batch

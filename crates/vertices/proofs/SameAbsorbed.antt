@@ -8,6 +8,11 @@ use Rattle.semantics.specs.Shard.{Absorbed, SendsBy, absorbed_by, only_at, with_
 use Rattle.semantics.specs.Time.{Time, below, deeper, same_time}
 use Rattle.semantics.proofs.MultisetSums.{append_same, ≈-refl, ≈-trans, ≈-sym, ≈-from, empty_from_same}
 use Rattle.semantics.proofs.OneFlow.{cond_same, op_same}
+use Rattle.std.specs.Prelude.{zero, suc, nat_eq, length, slice_get, Option, Some, None}
+use Rattle.vertices.specs.Lookups.{AreTurnsOf, IsFoundAt, in_loop, in_no_loop, left_of}
+use Rattle.vertices.specs.declared.counted_index.CountedIndex.{CountedIndex}
+use Rattle.vertices.specs.declared.join_plan.JoinPlan.{JoinPlan}
+use Rattle.vertices.specs.declared.turns.Turns.{Turns}
 use Rattle.vertices.specs.Kept.{kept_by}
 use Rattle.vertices.specs.Outs.{Sends, WouldSendOver}
 use Rattle.vertices.specs.Shards.{Shows}
@@ -19,7 +24,7 @@ use Rattle.vertices.specs.declared.port_sets.PortSets.{PortSets}
 use Rattle.vertices.specs.declared.shard.Shard.{Shard}
 use Rattle.vertices.specs.declared.shard.Shard.TheVariants as shard
 use Rattle.vertices.specs.declared.notified.Notified.{Notified}
-use Rattle.vertices.specs.declared.notified.Notified.TheVariants.{Group, Except, Unseen}
+use Rattle.vertices.specs.declared.notified.Notified.TheVariants.{Group, Except, Unseen, Lookup}
 use Rattle.vertices.specs.declared.stateful.Stateful.{Stateful}
 use Rattle.vertices.specs.declared.stateful.Stateful.TheVariants.{Distinct, Join, Intersect}
 use Rattle.vertices.specs.Notified.{NotifiedShows}
@@ -51,6 +56,14 @@ loop_same n kept f g e h = record { arity_is = h.arity_is; first = λ r m. sym (
         present-append r (f k) (flat_map f ks) ∙ ap₂ (λ b c. b || c) (ap (nat_lt 0) ((e k).counts r)) (present r ks)
         ∙ sym (present-append r (g k) (flat_map g ks))
 
+-- of a lookup
+turns_same : (plan : JoinPlan) (turns : Turns) (f g : ℕ → List Record) → ((k : ℕ) → f k ≈ g k) → AreTurnsOf plan turns f → AreTurnsOf plan turns g
+turns_same plan turns f g e h k = go (slice_get turns.found.items k) (h k)
+  where
+    go : (o : Option CountedIndex) → IsFoundAt plan o (f k) → IsFoundAt plan o (g k)
+    go None none = empty_from_same (g k) (≈-trans (≈-sym (e k)) (≈-from none))
+    go (Some x) found = record { columns = found.columns; arity = found.arity; whole = found.whole; all = ≈-trans found.all (e k) }
+
 StatefulShows_same : (s : Stateful) (a b : Absorbed) → ((p : ℕ) (t : Time) → a p t ≈ b p t) → StatefulShows s a → StatefulShows s b
 StatefulShows_same (Distinct s) a b e h = distinct_same_states s.arity s.times a b e h
 StatefulShows_same (Join s) a b e h = join_same_states s.plan s.times a b e h
@@ -64,6 +77,19 @@ NotifiedShows_same (Unseen s) a b e h = record {
   one_port = λ t. empty_from_same (b 1 t) (≈-trans (≈-sym (e 1 t)) (≈-from (h.one_port t)));
   loops = states_same (IsLoopOf s.came.arity) (loop_same s.came.arity) s.loops (by_turn a) (by_turn b) (λ k u. e 0 (deeper u k)) h.loops;
 }
+NotifiedShows_same (Lookup s) a b e h = record {
+  left = group_same_states s.plan.left_arity s.left (left_of a) (left_of b) left h.left;
+  right = states_same (AreTurnsOf s.plan) (turns_same s.plan) s.right (in_no_loop a) (in_no_loop b) flat h.right;
+  loops = states_same (AreTurnsOf s.plan) (turns_same s.plan) s.loops (in_loop a) (in_loop b) (λ k u. e 1 (deeper u k)) h.loops;
+}
+  where
+    left : (p : ℕ) (t : Time) → left_of a p t ≈ left_of b p t
+    left zero t = e 0 t
+    left (suc p) t = ≈-refl []
+
+    flat : (k : ℕ) (u : Time) → in_no_loop a k u ≈ in_no_loop b k u
+    flat zero u = cond_same (nat_eq (length u.counters) 0) (a 1 u) (b 1 u) (e 1 u)
+    flat (suc k) u = ≈-refl []
 
 pub Shows_same : (s : Shard) (a b : Absorbed) → ((p : ℕ) (t : Time) → a p t ≈ b p t) → Shows s a → Shows s b
 Shows_same shard.Input a b e h = tt

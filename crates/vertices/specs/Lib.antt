@@ -10,6 +10,7 @@ pub mod Outs
 pub mod FirstTurns
 pub mod LoopRows
 pub mod Unseen
+pub mod Lookups
 pub mod Stateless
 pub mod Stateful
 pub mod Notified

@@ -45,6 +45,10 @@ GoesOver kind t a port records = IsOver (kept_by (role kind) a port t records) �
 abbrev pub SendsForNotification : Kind → Time → Absorbed → Out → Type 0
 SendsForNotification kind t a out = SendsAtNotification (λ q ins. op kind t ins q) (reads kind a t) (sent (out_ports kind) out)
 
+-- some out port would send a record too often at the notification of a time
+abbrev pub WouldNotifyOver : Kind → Time → Absorbed → Type 0
+WouldNotifyOver kind t a = (would : ℕ → List Record) × SendsAtNotification (λ q ins. op kind t ins q) (reads kind a t) would × (q : ℕ) × IsOver (would q)
+
 -- whether it asks for a notification when records of a time come
 abbrev pub asks_at : Kind → Time → Absorbed → Bool
 asks_at kind t a = asks (role kind) (end_to_end (λ p. a p t) (in_ports kind))

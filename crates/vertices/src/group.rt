@@ -14,9 +14,9 @@ ghost use Rattle.vertices.specs.Groups.{AreGroupRecords, columns_of, group_recor
 ghost use Rattle.vertices.specs.Piles.{IsPileThen};
 ghost use Rattle.rows.specs.declared.fault.WorkFault.TheVariants as fault;
 
-use crate::by_time::{earlier, forget, put};
+use crate::by_time::{earlier, forget};
 use crate::groups::{Groups, key_arity};
-use crate::pile::Pile;
+use crate::pile::{Pile, take_in};
 use indexmap::IndexMap;
 use loop_context::Time;
 use operators::Group;
@@ -33,19 +33,6 @@ pub struct GroupShard {
     no_keys: RowSet,
     pub(crate) times: IndexMap<Time, Pile>,
     ghost no_key: { no_keys ≡ record { arity = key_arity (columns_of operator); rows = [] } },
-}
-
-/// Takes in the records of a batch.
-fn absorb(pile: &mut Pile, batch: &Batch) -> Result<(), WorkFault>
-    requires { arity_of batch.now ≡ pile.old.arity }
-    ensures records { OnOk result (pile.new.records ≈ (pile.old.records ++ batch.now)) }
-    ensures some { 0 < length batch.now }
-    ensures fits { OnOk result (AllFit (pile.old.records ++ batch.now)) }
-    ensures over { IfErr result (λ e. e ≡ Count → IsOver (pile.old.records ++ batch.now)) }
-    ensures arity { pile.new.arity ≡ pile.old.arity }
-{
-    let _count = batch.len();
-    pile.add(batch)
 }
 
 impl GroupShard {
@@ -80,18 +67,10 @@ impl GroupShard {
         ensures fits { OnOk result (ForAbsorbed (IsPileThen self.old.arity) self.old.times time.now (λ f. AllFit (f 0 ++ batch.now))) }
         ensures over { IfErr result (λ e. e ≡ fault.Count → ForAbsorbed (IsPileThen self.old.arity) self.old.times time.now (λ f. IsOver (f 0 ++ batch.now))) }
     {
-        if let Some(pile) = self.times.get_mut(time) {
-            if let Err(error) = absorb(pile, batch) {
-                return Err(error);
-            }
-            return Ok(false);
+        match take_in(self.alloc, self.arity, &mut self.times, time, batch) {
+            Ok(first) => Ok(first),
+            Err(error) => Err(error),
         }
-        let mut pile = Pile::new(self.alloc, self.arity);
-        if let Err(error) = absorb(&mut pile, batch) {
-            return Err(error);
-        }
-        put(&mut self.times, time, pile)?;
-        Ok(true)
     }
 
     /// A record for each group of a time.

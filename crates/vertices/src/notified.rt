@@ -6,13 +6,15 @@ ghost use Rattle.rows.specs.FlatRows.{arity_of};
 ghost use Rattle.semantics.specs.Kinds.{Kind, Role, in_ports, looks_back, out_ports};
 ghost use Rattle.semantics.specs.Shard.{Absorbed, asks, with_records};
 ghost use Rattle.vertices.specs.ByTime.{Forgets};
+ghost use Rattle.vertices.specs.Kept.{by_port};
 ghost use Rattle.vertices.specs.Notified.{NotifiedShows, NotifiedTakes, notified_kind};
-ghost use Rattle.vertices.specs.Outs.{SendsFor, SendsForNotification, asks_at, sent};
+ghost use Rattle.vertices.specs.Outs.{SendsFor, SendsForNotification, WouldNotifyOver, asks_at, sent};
 ghost use Rattle.rows.specs.declared.fault.WorkFault.TheVariants.{Count, NoMemory};
-ghost use Rattle.vertices.specs.declared.notified.Notified.TheVariants.{Except, Group, Unseen};
+ghost use Rattle.vertices.specs.declared.notified.Notified.TheVariants.{Except, Group, Lookup, Unseen};
 
 use crate::except::ExceptShard;
 use crate::group::GroupShard;
+use crate::lookup::LookupShard;
 use crate::out::Out;
 use crate::unseen::UnseenShard;
 use loop_context::Time;
@@ -25,6 +27,7 @@ pub enum Notified {
     Group(GroupShard),
     Except(ExceptShard),
     Unseen(UnseenShard),
+    Lookup(LookupShard),
 }
 
 impl Notified {
@@ -64,10 +67,14 @@ impl Notified {
                 unseen(shard, alloc, time, batch, out)?;
                 Ok(())
             }
+            Notified::Lookup(shard) => {
+                lookup(shard, alloc, port, time, batch, out)?;
+                Ok(())
+            }
         }
     }
 
-    /// Sends what is due at the notification of a time.
+    /// Sends what is due at the notification of a time. `Count` exactly where a record would be sent too often.
     pub(crate) fn on_notify(
         &self,
         alloc: Global,
@@ -77,7 +84,7 @@ impl Notified {
         requires { (a : Absorbed) × NotifiedShows self.now a }
         ensures sends { OnOk result ((a : Absorbed) → NotifiedShows self.now a → SendsForNotification (notified_kind self.now) time.now a out.new) }
         ensures fits_sent { OnOk result ((q : ℕ) → AllFit (sent (out_ports (notified_kind self.now)) out.new q)) }
-        ensures never { IfErr result (λ e. e ≡ NoMemory) }
+        ensures over { IfErr result (λ e. e ≡ Count → (a : Absorbed) → NotifiedShows self.now a → WouldNotifyOver (notified_kind self.now) time.now a) }
         ensures asked { out.new.asked ≡ out.old.asked }
     {
         match self {
@@ -93,6 +100,10 @@ impl Notified {
                 unseen_notified(shard, alloc, time, out)?;
                 Ok(())
             }
+            Notified::Lookup(shard) => {
+                lookup_notified(shard, alloc, time, out)?;
+                Ok(())
+            }
         }
     }
 
@@ -105,6 +116,7 @@ impl Notified {
             Notified::Group(shard) => shard.earlier(now),
             Notified::Except(shard) => shard.earlier(now),
             Notified::Unseen(_) => None,
+            Notified::Lookup(_) => None,
         }
     }
 
@@ -118,6 +130,7 @@ impl Notified {
             Notified::Group(shard) => shard.forget(time),
             Notified::Except(shard) => shard.forget(time),
             Notified::Unseen(_) => {}
+            Notified::Lookup(_) => {}
         }
     }
 }
@@ -248,5 +261,48 @@ fn unseen_notified(
     let rows = shard.on_notify(alloc, time)?;
     let turn = time.last_counter() as u64;
     out.send_new(alloc, CountedRows::once(alloc, rows), turn < shard.turns)?;
+    Ok(())
+}
+
+/// Sends nothing, and asks for a notification at the first batch of a time, at whichever port it comes. `Count` exactly where a record
+/// would then have come to the port too often.
+fn lookup(
+    shard: &mut LookupShard,
+    alloc: Global,
+    port: u32,
+    time: &Time,
+    batch: &Batch,
+    out: &mut Out,
+) -> Result<(), WorkFault>
+    requires port { port < 2 }
+    requires arity { arity_of batch.now ≡ by_port shard.old.plan.left_arity shard.old.plan.right_arity port }
+    requires whole { (a : Absorbed) × NotifiedShows (Lookup shard.old) a }
+    requires out { out.old ≡ record { first = None; second = None; asked = false } }
+    ensures plan { shard.new.plan ≡ shard.old.plan }
+    ensures absorbed { OnOk result ((a : Absorbed) → NotifiedShows (Lookup shard.old) a → NotifiedShows (Lookup shard.new) (with_records a port time.now batch.now)) }
+    ensures sends { OnOk result ((a : Absorbed) → SendsFor (notified_kind (Lookup shard.old)) time.now a port batch.now out.new) }
+    ensures fits { OnOk result ((a : Absorbed) → NotifiedShows (Lookup shard.old) a → AllFit (a port time.now ++ batch.now)) }
+    ensures fits_sent { OnOk result ((q : ℕ) → AllFit (sent 1 out.new q)) }
+    ensures over { IfErr result (λ e. e ≡ Count → (a : Absorbed) → NotifiedShows (Lookup shard.old) a → IsOver (a port time.now ++ batch.now)) }
+    ensures asked { OnOk result ((a : Absorbed) → NotifiedShows (Lookup shard.old) a → out.new.asked ≡ asks Role.notified (a 0 time.now ++ a 1 time.now)) }
+{
+    out.asked = shard.on_records(alloc, port, time, batch)?;
+    Ok(())
+}
+
+/// Sends the records of port 0 at the time, joined with those that came to port 1 then and at earlier turns.
+fn lookup_notified(
+    shard: &LookupShard,
+    alloc: Global,
+    time: &Time,
+    out: &mut Out,
+) -> Result<(), WorkFault>
+    requires whole { (a : Absorbed) × NotifiedShows (Lookup shard.now) a }
+    ensures sends { OnOk result ((a : Absorbed) → NotifiedShows (Lookup shard.now) a → SendsForNotification (notified_kind (Lookup shard.now)) time.now a out.new) }
+    ensures fits_sent { OnOk result ((q : ℕ) → AllFit (sent 1 out.new q)) }
+    ensures over { IfErr result (λ e. e ≡ Count → (a : Absorbed) → NotifiedShows (Lookup shard.now) a → WouldNotifyOver (notified_kind (Lookup shard.now)) time.now a) }
+    ensures asked { out.new.asked ≡ out.old.asked }
+{
+    out.first = shard.on_notify(alloc, time)?;
     Ok(())
 }

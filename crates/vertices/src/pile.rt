@@ -1,12 +1,19 @@
 //! The records of one time, as they come.
 
-ghost use Rattle.std.specs.Prelude.{◌≡◌, ◌++◌, IfErr, OnOk, [], length, ◌≤◌};
+ghost use Rattle.std.specs.Prelude.{◌≡◌, ◌<◌, ◌++◌, IfErr, IfOk, OnOk, [], length, ◌≤◌};
 ghost use Rattle.std.specs.List.{AllByRecursion};
 ghost use Rattle.rows.specs.Counts.{AllFit, IsOver};
 ghost use Rattle.rows.specs.FlatRows.{arity_of, joined};
+ghost use Rattle.semantics.specs.Kinds.{Role};
 ghost use Rattle.semantics.specs.Multiset.{◌≈◌};
+ghost use Rattle.semantics.specs.Shard.{Absorbed, asks};
+ghost use Rattle.vertices.specs.ByTime.{Absorbs, AreStatesOf, ForAbsorbed};
+ghost use Rattle.vertices.specs.Piles.{IsPileThen};
 ghost use Rattle.rows.specs.declared.fault.WorkFault.TheVariants.{Count};
 
+use crate::by_time::put;
+use indexmap::IndexMap;
+use loop_context::Time;
 use rows::{Batch, MAX_COUNT, WorkFault};
 use std::alloc::Global;
 use std::marker::Model;
@@ -75,8 +82,51 @@ impl Pile {
 
     /// The batches.
     pub(crate) fn batches(&self) -> &[Batch]
-        ensures { joined result.now ≡ self.now.records }
+        ensures records { joined result.now ≡ self.now.records }
+        ensures arity { AllByRecursion (λ b. arity_of b ≡ self.now.arity) result.now }
     {
         &self.batches
     }
+}
+
+/// Takes in the records of a batch.
+fn absorb(pile: &mut Pile, batch: &Batch) -> Result<(), WorkFault>
+    requires { arity_of batch.now ≡ pile.old.arity }
+    ensures records { OnOk result (pile.new.records ≈ (pile.old.records ++ batch.now)) }
+    ensures some { 0 < length batch.now }
+    ensures fits { OnOk result (AllFit (pile.old.records ++ batch.now)) }
+    ensures over { IfErr result (λ e. e ≡ Count → IsOver (pile.old.records ++ batch.now)) }
+    ensures arity { pile.new.arity ≡ pile.old.arity }
+{
+    let _count = batch.len();
+    pile.add(batch)
+}
+
+/// Takes in a batch of a time, and says whether it is the first of that time. `Count` exactly where a record would then have come too often.
+pub(crate) fn take_in(
+    alloc: Global,
+    arity: usize,
+    times: &mut IndexMap<Time, Pile>,
+    time: &Time,
+    batch: &Batch,
+) -> Result<bool, WorkFault>
+    requires arity { arity_of batch.now ≡ arity }
+    requires whole { (a : Absorbed) × AreStatesOf (IsPileThen arity) times.old a }
+    ensures absorbed { OnOk result (Absorbs (IsPileThen arity) times.old times.new 0 time.now batch.now) }
+    ensures asked { IfOk result (λ asked. ForAbsorbed (IsPileThen arity) times.old time.now (λ f. asked ≡ asks Role.notified (f 0))) }
+    ensures fits { OnOk result (ForAbsorbed (IsPileThen arity) times.old time.now (λ f. AllFit (f 0 ++ batch.now))) }
+    ensures over { IfErr result (λ e. e ≡ Count → ForAbsorbed (IsPileThen arity) times.old time.now (λ f. IsOver (f 0 ++ batch.now))) }
+{
+    if let Some(pile) = times.get_mut(time) {
+        if let Err(error) = absorb(pile, batch) {
+            return Err(error);
+        }
+        return Ok(false);
+    }
+    let mut pile = Pile::new(alloc, arity);
+    if let Err(error) = absorb(&mut pile, batch) {
+        return Err(error);
+    }
+    put(times, time, pile)?;
+    Ok(true)
 }

@@ -5,7 +5,7 @@ ghost use Rattle.rows.specs.FlatRows.{arity_of};
 ghost use Rattle.semantics.specs.Kinds.{Kind, Role, in_ports, looks_back, role};
 ghost use Rattle.semantics.specs.Shard.{Absorbed};
 ghost use Rattle.vertices.specs.ByTime.{Forgets};
-ghost use Rattle.vertices.specs.Outs.{SendsForNotification};
+ghost use Rattle.vertices.specs.Outs.{SendsForNotification, WouldNotifyOver};
 ghost use Rattle.vertices.specs.Shards.{Shows, TakesArity, shard_kind};
 ghost use Rattle.vertices.specs.TakesIn.{Absorbs, AsksForBatch, IsTooMuch, KeptFit, SendsForBatch, SentFit};
 ghost use Rattle.rows.specs.declared.fault.WorkFault.TheVariants.{Count, NoMemory};
@@ -74,13 +74,14 @@ impl Shard {
         }
     }
 
-    /// Sends what is due at the notification that was asked for at a time: nothing more comes at that time. It is never too often.
+    /// Sends what is due at the notification that was asked for at a time: nothing more comes at that time. `Count` exactly where a record
+    /// would be sent too often.
     pub fn on_notify(&self, alloc: Global, time: &Time, out: &mut Out) -> Result<(), WorkFault>
         requires role { role (shard_kind self.now) ≡ Role.notified }
         requires whole { (a : Absorbed) × Shows self.now a }
         ensures sends { OnOk result ((a : Absorbed) → Shows self.now a → SendsForNotification (shard_kind self.now) time.now a out.new) }
         ensures fits_sent { OnOk result (SentFit self.now out.new) }
-        ensures never { IfErr result (λ e. e ≡ NoMemory) }
+        ensures over { IfErr result (λ e. e ≡ Count → (a : Absorbed) → Shows self.now a → WouldNotifyOver (shard_kind self.now) time.now a) }
         ensures asked { out.new.asked ≡ out.old.asked }
     {
         match self {

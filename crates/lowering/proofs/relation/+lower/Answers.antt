@@ -4,7 +4,8 @@ use Rattle.expr_tree.specs.Plain.{plain_agg, plain_form, plain_cond, plain_pair,
 use Rattle.expr_tree.specs.Views.{cond_tree, rel_tree, scalar_tree}
 use Rattle.semantics.specs.FreeNames.{carried}
 use Rattle.semantics.specs.Kinds as semantics
-use Rattle.semantics.specs.Lower.{carry, lower}
+use Rattle.semantics.specs.Lower.{carry, held_turns, is_lookup, join_kind, lower}
+use Rattle.lowering.specs.Loops.{names_once}
 use Rattle.lowering.specs.Faults.{IsOver}
 use Rattle.lowering.specs.Scopes.{ports_of}
 use Rattle.graph.specs.Views.{graph_of}
@@ -87,10 +88,10 @@ lower_rel-returns-in_err-left-in-SetOperation-clause-many g t c =
     let k = length c.args.made.now.items in
     let p = plain_rel (rel_tree c.in-SetOperation.left.value) in
     let q = plain_rel (rel_tree c.in-SetOperation.right.value) in
-    let l = lower p ports c.args.depth k in
-    let r = λ (k : ℕ). lower q ports c.args.depth k in
+    let l = lower p ports c.args.once.now c.args.depth k in
+    let r = λ (k : ℕ). lower q ports c.args.once.now c.args.depth k in
     let kind : semantics.Kind = operator_kind c.in-SetOperation.operator in
-    passed_on c.from_residual-in_err-left-in-SetOperation.result c.in_err-left-in-SetOperation.field-0.0 _ c.from_residual-in_err-left-in-SetOperation.ensures.1 (rw (c.in-SetOperation.is, set_lowered c.in-SetOperation.operator p q ports c.args.depth k) (over_left _ k l (r (k + length l.made)) kind c.args.depth (rw c.deref-in-SetOperation.ensures at c.in_err-left-in-SetOperation.ensures.many)))
+    passed_on c.from_residual-in_err-left-in-SetOperation.result c.in_err-left-in-SetOperation.field-0.0 _ c.from_residual-in_err-left-in-SetOperation.ensures.1 (rw (c.in-SetOperation.is, set_lowered c.in-SetOperation.operator p q ports c.args.once.now c.args.depth k) (over_left _ k l (r (k + length l.made)) kind c.args.depth (rw c.deref-in-SetOperation.ensures at c.in_err-left-in-SetOperation.ensures.many)))
 
 pub lower_rel-returns-in_err-right-in-SetOperation-clause-many : goal.lower_rel-returns-in_err-right-in-SetOperation-clause-many
 lower_rel-returns-in_err-right-in-SetOperation-clause-many g t c =
@@ -98,11 +99,11 @@ lower_rel-returns-in_err-right-in-SetOperation-clause-many g t c =
     let k = length c.args.made.now.items in
     let p = plain_rel (rel_tree c.in-SetOperation.left.value) in
     let q = plain_rel (rel_tree c.in-SetOperation.right.value) in
-    let l = lower p ports c.args.depth k in
-    let r = λ (k : ℕ). lower q ports c.args.depth k in
+    let l = lower p ports c.args.once.now c.args.depth k in
+    let r = λ (k : ℕ). lower q ports c.args.once.now c.args.depth k in
     let kind : semantics.Kind = operator_kind c.in-SetOperation.operator in
     let i = rw c.deref-in-SetOperation.ensures at c.in_ok-left-in-SetOperation.ensures.ok in
-    passed_on c.from_residual-in_err-right-in-SetOperation.result c.in_err-right-in-SetOperation.field-0.0 _ c.from_residual-in_err-right-in-SetOperation.ensures.1 (rw (c.in-SetOperation.is, set_lowered c.in-SetOperation.operator p q ports c.args.depth k) (over_right _ c.args.made.now.items c.lower_rel-in-SetOperation.new.made.items _ l r kind c.args.depth i (rw (c.deref-in-SetOperation-2.ensures, c.in_ok-left-in-SetOperation.ensures.scope) at c.in_err-right-in-SetOperation.ensures.many)))
+    passed_on c.from_residual-in_err-right-in-SetOperation.result c.in_err-right-in-SetOperation.field-0.0 _ c.from_residual-in_err-right-in-SetOperation.ensures.1 (rw (c.in-SetOperation.is, set_lowered c.in-SetOperation.operator p q ports c.args.once.now c.args.depth k) (over_right _ c.args.made.now.items c.lower_rel-in-SetOperation.new.made.items _ l r kind c.args.depth i (rw (c.deref-in-SetOperation-2.ensures, c.in_ok-left-in-SetOperation.ensures.scope) at c.in_err-right-in-SetOperation.ensures.many)))
 
 pub lower_rel-returns-in_ok-right-in-SetOperation-clause-ok : goal.lower_rel-returns-in_ok-right-in-SetOperation-clause-ok
 lower_rel-returns-in_ok-right-in-SetOperation-clause-ok g t c =
@@ -110,12 +111,12 @@ lower_rel-returns-in_ok-right-in-SetOperation-clause-ok g t c =
     let k = length c.args.made.now.items in
     let p = plain_rel (rel_tree c.in-SetOperation.left.value) in
     let q = plain_rel (rel_tree c.in-SetOperation.right.value) in
-    let l = lower p ports c.args.depth k in
-    let r = λ (k : ℕ). lower q ports c.args.depth k in
+    let l = lower p ports c.args.once.now c.args.depth k in
+    let r = λ (k : ℕ). lower q ports c.args.once.now c.args.depth k in
     let kind : semantics.Kind = operator_kind c.in-SetOperation.operator in
     let i = rw c.deref-in-SetOperation.ensures at c.in_ok-left-in-SetOperation.ensures.ok in
     let j = rw (c.deref-in-SetOperation-2.ensures, c.in_ok-left-in-SetOperation.ensures.scope) at c.in_ok-right-in-SetOperation.ensures.ok in
-    rw (c.in-SetOperation.is, set_lowered c.in-SetOperation.operator p q ports c.args.depth k) (two_ok c.add_set_operation.result c.args.made.now.items c.lower_rel-in-SetOperation.new.made.items c.lower_rel-in-SetOperation-2.new.made.items c.add_set_operation.new.made.items _ _ l r kind c.args.depth i j c.add_set_operation.ensures.made c.add_set_operation.ensures.gives)
+    rw (c.in-SetOperation.is, set_lowered c.in-SetOperation.operator p q ports c.args.once.now c.args.depth k) (two_ok c.add_set_operation.result c.args.made.now.items c.lower_rel-in-SetOperation.new.made.items c.lower_rel-in-SetOperation-2.new.made.items c.add_set_operation.new.made.items _ _ l r kind c.args.depth i j c.add_set_operation.ensures.made c.add_set_operation.ensures.gives)
 
 pub lower_rel-returns-in_ok-right-in-SetOperation-clause-many : goal.lower_rel-returns-in_ok-right-in-SetOperation-clause-many
 lower_rel-returns-in_ok-right-in-SetOperation-clause-many g t c =
@@ -123,12 +124,12 @@ lower_rel-returns-in_ok-right-in-SetOperation-clause-many g t c =
     let k = length c.args.made.now.items in
     let p = plain_rel (rel_tree c.in-SetOperation.left.value) in
     let q = plain_rel (rel_tree c.in-SetOperation.right.value) in
-    let l = lower p ports c.args.depth k in
-    let r = λ (k : ℕ). lower q ports c.args.depth k in
+    let l = lower p ports c.args.once.now c.args.depth k in
+    let r = λ (k : ℕ). lower q ports c.args.once.now c.args.depth k in
     let kind : semantics.Kind = operator_kind c.in-SetOperation.operator in
     let i = rw c.deref-in-SetOperation.ensures at c.in_ok-left-in-SetOperation.ensures.ok in
     let j = rw (c.deref-in-SetOperation-2.ensures, c.in_ok-left-in-SetOperation.ensures.scope) at c.in_ok-right-in-SetOperation.ensures.ok in
-    rw (c.in-SetOperation.is, set_lowered c.in-SetOperation.operator p q ports c.args.depth k) (two_many c.add_set_operation.result c.args.made.now.items c.lower_rel-in-SetOperation.new.made.items c.lower_rel-in-SetOperation-2.new.made.items _ _ l r kind c.args.depth i j c.add_set_operation.ensures.many)
+    rw (c.in-SetOperation.is, set_lowered c.in-SetOperation.operator p q ports c.args.once.now c.args.depth k) (two_many c.add_set_operation.result c.args.made.now.items c.lower_rel-in-SetOperation.new.made.items c.lower_rel-in-SetOperation-2.new.made.items _ _ l r kind c.args.depth i j c.add_set_operation.ensures.many)
 
 pub lower_rel-returns-in_err-left-in-Join-clause-many : goal.lower_rel-returns-in_err-left-in-Join-clause-many
 unfolding lower
@@ -137,10 +138,10 @@ lower_rel-returns-in_err-left-in-Join-clause-many g t c =
     let k = length c.args.made.now.items in
     let p = plain_rel (rel_tree c.in-Join.left.value) in
     let q = plain_rel (rel_tree c.in-Join.right.value) in
-    let l = lower p ports c.args.depth k in
-    let r = λ (k : ℕ). lower q ports c.args.depth k in
-    let kind : semantics.Kind = semantics.Kind.join (map plain_pair c.in-Join.pairs.items) in
-    passed_on c.from_residual-in_err-left-in-Join.result c.in_err-left-in-Join.field-0.0 _ c.from_residual-in_err-left-in-Join.ensures.1 (rw c.in-Join.is (over_left _ k l (r (k + length l.made)) kind c.args.depth (rw c.deref-in-Join.ensures at c.in_err-left-in-Join.ensures.many)))
+    let l = lower p ports c.args.once.now c.args.depth k in
+    let r = λ (k : ℕ). lower q ports c.args.once.now c.args.depth k in
+    let kind : semantics.Kind = join_kind (is_lookup q c.args.once.now) (map plain_pair c.in-Join.pairs.items) in
+    passed_on c.from_residual-in_err-left-in-Join.result c.in_err-left-in-Join.field-0.0 _ c.from_residual-in_err-left-in-Join.ensures.1 (rw c.in-Join.is (over_left _ k l (r (k + length l.made)) kind c.args.depth (rw c.deref-in-Join-2.ensures at c.in_err-left-in-Join.ensures.many)))
 
 pub lower_rel-returns-in_err-right-in-Join-clause-many : goal.lower_rel-returns-in_err-right-in-Join-clause-many
 unfolding lower
@@ -149,11 +150,11 @@ lower_rel-returns-in_err-right-in-Join-clause-many g t c =
     let k = length c.args.made.now.items in
     let p = plain_rel (rel_tree c.in-Join.left.value) in
     let q = plain_rel (rel_tree c.in-Join.right.value) in
-    let l = lower p ports c.args.depth k in
-    let r = λ (k : ℕ). lower q ports c.args.depth k in
-    let kind : semantics.Kind = semantics.Kind.join (map plain_pair c.in-Join.pairs.items) in
-    let i = rw c.deref-in-Join.ensures at c.in_ok-left-in-Join.ensures.ok in
-    passed_on c.from_residual-in_err-right-in-Join.result c.in_err-right-in-Join.field-0.0 _ c.from_residual-in_err-right-in-Join.ensures.1 (rw c.in-Join.is (over_right _ c.args.made.now.items c.lower_rel-in-Join.new.made.items _ l r kind c.args.depth i (rw (c.deref-in-Join-2.ensures, c.in_ok-left-in-Join.ensures.scope) at c.in_err-right-in-Join.ensures.many)))
+    let l = lower p ports c.args.once.now c.args.depth k in
+    let r = λ (k : ℕ). lower q ports c.args.once.now c.args.depth k in
+    let kind : semantics.Kind = join_kind (is_lookup q c.args.once.now) (map plain_pair c.in-Join.pairs.items) in
+    let i = rw c.deref-in-Join-2.ensures at c.in_ok-left-in-Join.ensures.ok in
+    passed_on c.from_residual-in_err-right-in-Join.result c.in_err-right-in-Join.field-0.0 _ c.from_residual-in_err-right-in-Join.ensures.1 (rw c.in-Join.is (over_right _ c.args.made.now.items c.lower_rel-in-Join.new.made.items _ l r kind c.args.depth i (rw (c.deref-in-Join-3.ensures, c.in_ok-left-in-Join.ensures.scope) at c.in_err-right-in-Join.ensures.many)))
 
 pub lower_rel-returns-in_ok-right-in-Join-clause-ok : goal.lower_rel-returns-in_ok-right-in-Join-clause-ok
 unfolding lower
@@ -162,12 +163,12 @@ lower_rel-returns-in_ok-right-in-Join-clause-ok g t c =
     let k = length c.args.made.now.items in
     let p = plain_rel (rel_tree c.in-Join.left.value) in
     let q = plain_rel (rel_tree c.in-Join.right.value) in
-    let l = lower p ports c.args.depth k in
-    let r = λ (k : ℕ). lower q ports c.args.depth k in
-    let kind : semantics.Kind = semantics.Kind.join (map plain_pair c.in-Join.pairs.items) in
-    let i = rw c.deref-in-Join.ensures at c.in_ok-left-in-Join.ensures.ok in
-    let j = rw (c.deref-in-Join-2.ensures, c.in_ok-left-in-Join.ensures.scope) at c.in_ok-right-in-Join.ensures.ok in
-    rw c.in-Join.is (two_ok c.add_join.result c.args.made.now.items c.lower_rel-in-Join.new.made.items c.lower_rel-in-Join-2.new.made.items c.add_join.new.made.items _ _ l r kind c.args.depth i j c.add_join.ensures.made c.add_join.ensures.gives)
+    let l = lower p ports c.args.once.now c.args.depth k in
+    let r = λ (k : ℕ). lower q ports c.args.once.now c.args.depth k in
+    let kind : semantics.Kind = join_kind (is_lookup q c.args.once.now) (map plain_pair c.in-Join.pairs.items) in
+    let i = rw c.deref-in-Join-2.ensures at c.in_ok-left-in-Join.ensures.ok in
+    let j = rw (c.deref-in-Join-3.ensures, c.in_ok-left-in-Join.ensures.scope) at c.in_ok-right-in-Join.ensures.ok in
+    rw c.in-Join.is (two_ok c.add_join.result c.args.made.now.items c.lower_rel-in-Join.new.made.items c.lower_rel-in-Join-2.new.made.items c.add_join.new.made.items _ _ l r kind c.args.depth i j (rw (c.is_lookup-lookup.ensures, c.deref-in-Join.ensures) at c.add_join.ensures.made) c.add_join.ensures.gives)
 
 pub lower_rel-returns-in_ok-right-in-Join-clause-many : goal.lower_rel-returns-in_ok-right-in-Join-clause-many
 unfolding lower
@@ -176,11 +177,11 @@ lower_rel-returns-in_ok-right-in-Join-clause-many g t c =
     let k = length c.args.made.now.items in
     let p = plain_rel (rel_tree c.in-Join.left.value) in
     let q = plain_rel (rel_tree c.in-Join.right.value) in
-    let l = lower p ports c.args.depth k in
-    let r = λ (k : ℕ). lower q ports c.args.depth k in
-    let kind : semantics.Kind = semantics.Kind.join (map plain_pair c.in-Join.pairs.items) in
-    let i = rw c.deref-in-Join.ensures at c.in_ok-left-in-Join.ensures.ok in
-    let j = rw (c.deref-in-Join-2.ensures, c.in_ok-left-in-Join.ensures.scope) at c.in_ok-right-in-Join.ensures.ok in
+    let l = lower p ports c.args.once.now c.args.depth k in
+    let r = λ (k : ℕ). lower q ports c.args.once.now c.args.depth k in
+    let kind : semantics.Kind = join_kind (is_lookup q c.args.once.now) (map plain_pair c.in-Join.pairs.items) in
+    let i = rw c.deref-in-Join-2.ensures at c.in_ok-left-in-Join.ensures.ok in
+    let j = rw (c.deref-in-Join-3.ensures, c.in_ok-left-in-Join.ensures.scope) at c.in_ok-right-in-Join.ensures.ok in
     rw c.in-Join.is (two_many c.add_join.result c.args.made.now.items c.lower_rel-in-Join.new.made.items c.lower_rel-in-Join-2.new.made.items _ _ l r kind c.args.depth i j c.add_join.ensures.many)
 
 pub lower_loop-returns-in_err-from-clause-many : goal.lower_loop-returns-in_err-from-clause-many
@@ -192,11 +193,11 @@ lower_loop-returns-in_err-from-clause-many g t c =
     let ports = ports_of c.args.scope.now in
     let d = c.args.depth in
     let n = c.args.head.turns in
-    passed_on c.from_residual.result c.in_err-from.field-0.0 _ c.from_residual.ensures.1 (over_start _ (plain_form c.args.head.form) n x r b ports d (length c.args.made.now.items) c.in_err-from.ensures.many)
+    passed_on c.from_residual.result c.in_err-from.field-0.0 _ c.from_residual.ensures.1 (over_start _ (plain_form c.args.head.form) n x r b ports c.args.head.once.now d (length c.args.made.now.items) c.in_err-from.ensures.many)
 
-pub lower_loop-returns-in_err-gate-clause-many : goal.lower_loop-returns-in_err-gate-clause-many
+pub lower_loop-returns-in_err-opened-clause-many : goal.lower_loop-returns-in_err-opened-clause-many
 unfolding lower
-lower_loop-returns-in_err-gate-clause-many g t c =
+lower_loop-returns-in_err-opened-clause-many g t c =
     let x = c.args.head.variable.now in
     let r = plain_rel (rel_tree c.args.start.now) in
     let b = plain_rel (rel_tree c.args.body.now) in
@@ -205,8 +206,8 @@ lower_loop-returns-in_err-gate-clause-many g t c =
     let n = c.args.head.turns in
     let i = c.in_ok-from.ensures.ok in
     let k = length c.lower_rel.new.made.items in
-    let over : IsOver c.in_err-gate.field-0.0 (k + suc (suc (suc (length (carry n (ports_of c.lower_rel.new.scope) d (suc (suc (suc k))) (carried x b)))))) = c.in_err-gate.ensures.many in
-    passed_on c.from_residual-in_err-gate.result c.in_err-gate.field-0.0 _ c.from_residual-in_err-gate.ensures.1 (over_open _ (plain_form c.args.head.form) n x r b ports d c.args.made.now.items c.lower_rel.new.made.items _ i (rw c.in_ok-from.ensures.scope at over))
+    let over : IsOver c.in_err-opened.field-0.0 (k + suc (suc (suc (length (carry (held_turns n (names_once c.args.head.form x c.args.body.now)) (ports_of c.lower_rel.new.scope) d (suc (suc (suc k))) (carried x b)))))) = c.in_err-opened.ensures.many in
+    passed_on c.from_residual-in_err-opened.result c.in_err-opened.field-0.0 _ c.from_residual-in_err-opened.ensures.1 (over_open _ (plain_form c.args.head.form) n x r b ports c.args.head.once.now d c.args.made.now.items c.lower_rel.new.made.items _ i (rw c.in_ok-from.ensures.scope at over))
 
 pub lower_loop-returns-in_err-last-clause-many : goal.lower_loop-returns-in_err-last-clause-many
 unfolding lower
@@ -218,10 +219,10 @@ lower_loop-returns-in_err-last-clause-many g t c =
     let d = c.args.depth in
     let n = c.args.head.turns in
     let i = c.in_ok-from.ensures.ok in
-    let o = rw c.in_ok-from.ensures.scope at c.in_ok-gate.ensures.made in
-    let s = rw c.in_ok-from.ensures.scope at c.in_ok-gate.ensures.inside in
+    let o = rw c.in_ok-from.ensures.scope at c.in_ok-opened.ensures.made in
+    let s = rw c.in_ok-from.ensures.scope at c.in_ok-opened.ensures.inside in
     let q : d + 1 ≡ suc d = omega arith in
-    passed_on c.from_residual-in_err-last.result c.in_err-last.field-0.0 _ c.from_residual-in_err-last.ensures.1 (over_body _ (plain_form c.args.head.form) n x r b ports _ d (d + 1) c.args.made.now.items c.lower_rel.new.made.items c.open_loop.new.made.items _ _ _ _ i o s q c.in_err-last.ensures.many)
+    passed_on c.from_residual-in_err-last.result c.in_err-last.field-0.0 _ c.from_residual-in_err-last.ensures.1 (over_body _ (plain_form c.args.head.form) n x r b ports _ c.args.head.once.now d (d + 1) c.args.made.now.items c.lower_rel.new.made.items c.open_loop.new.made.items _ _ _ _ i o s q (rw (c.deref.ensures.value, c.in_ok-opened.ensures.once) at c.in_err-last.ensures.many))
 
 pub lower_loop-returns-clause-ok : goal.lower_loop-returns-clause-ok
 unfolding lower
@@ -233,14 +234,14 @@ lower_loop-returns-clause-ok g t c =
     let d = c.args.depth in
     let n = c.args.head.turns in
     let i = c.in_ok-from.ensures.ok in
-    let o = rw c.in_ok-from.ensures.scope at c.in_ok-gate.ensures.made in
-    let s = rw c.in_ok-from.ensures.scope at c.in_ok-gate.ensures.inside in
+    let o = rw c.in_ok-from.ensures.scope at c.in_ok-opened.ensures.made in
+    let s = rw c.in_ok-from.ensures.scope at c.in_ok-opened.ensures.inside in
     let q : d + 1 ≡ suc d = omega arith in
-    let j = c.in_ok-last.ensures.ok in
-    let v : c.in_ok-gate.gate.vertex.0 ≡ suc (suc (length c.lower_rel.new.made.items)) = ap (λ p. p.vertex) c.in_ok-gate.ensures.gives in
-    let v1 : c.in_ok-gate.gate.vertex.0 - 1 ≡ suc (length c.lower_rel.new.made.items) = omega (arith, v) in
-    let v2 : c.in_ok-gate.gate.vertex.0 - 2 ≡ length c.lower_rel.new.made.items = omega (arith, v) in
-    loop_ok c.close_loop.result (plain_form c.args.head.form) n x r b ports _ d (d + 1) c.args.made.now.items c.lower_rel.new.made.items c.open_loop.new.made.items c.lower_rel-2.new.made.items c.close_loop.new.made.items _ _ _ i o s q j (rw (v1, v2, v) at c.close_loop.ensures.made) c.close_loop.ensures.gives
+    let j = rw (c.deref.ensures.value, c.in_ok-opened.ensures.once) at c.in_ok-last.ensures.ok in
+    let v : c.in_ok-opened.opened.0.vertex.0 ≡ suc (suc (length c.lower_rel.new.made.items)) = ap (λ p. p.vertex) c.in_ok-opened.ensures.gives in
+    let v1 : c.in_ok-opened.opened.0.vertex.0 - 1 ≡ suc (length c.lower_rel.new.made.items) = omega (arith, v) in
+    let v2 : c.in_ok-opened.opened.0.vertex.0 - 2 ≡ length c.lower_rel.new.made.items = omega (arith, v) in
+    loop_ok c.close_loop.result (plain_form c.args.head.form) n x r b ports _ c.args.head.once.now d (d + 1) c.args.made.now.items c.lower_rel.new.made.items c.open_loop.new.made.items c.lower_rel-2.new.made.items c.close_loop.new.made.items _ _ _ i o s q j (rw (v1, v2, v) at c.close_loop.ensures.made) c.close_loop.ensures.gives
 
 pub lower_loop-returns-clause-many : goal.lower_loop-returns-clause-many
 unfolding lower
@@ -252,16 +253,16 @@ lower_loop-returns-clause-many g t c =
     let d = c.args.depth in
     let n = c.args.head.turns in
     let i = c.in_ok-from.ensures.ok in
-    let o = rw c.in_ok-from.ensures.scope at c.in_ok-gate.ensures.made in
-    let s = rw c.in_ok-from.ensures.scope at c.in_ok-gate.ensures.inside in
+    let o = rw c.in_ok-from.ensures.scope at c.in_ok-opened.ensures.made in
+    let s = rw c.in_ok-from.ensures.scope at c.in_ok-opened.ensures.inside in
     let q : d + 1 ≡ suc d = omega arith in
-    let j = c.in_ok-last.ensures.ok in
-    loop_many c.close_loop.result (plain_form c.args.head.form) n x r b ports _ d (d + 1) c.args.made.now.items c.lower_rel.new.made.items c.open_loop.new.made.items c.lower_rel-2.new.made.items _ _ _ _ _ i o s q j c.close_loop.ensures.many
+    let j = rw (c.deref.ensures.value, c.in_ok-opened.ensures.once) at c.in_ok-last.ensures.ok in
+    loop_many c.close_loop.result (plain_form c.args.head.form) n x r b ports _ c.args.head.once.now d (d + 1) c.args.made.now.items c.lower_rel.new.made.items c.open_loop.new.made.items c.lower_rel-2.new.made.items _ _ _ _ _ i o s q j c.close_loop.ensures.many
 
 pub lower_loop-close_loop-requires-clause-made : goal.lower_loop-close_loop-requires-clause-made
 lower_loop-close_loop-requires-clause-made g t c =
     let d = c.args.depth in
-    let o = rw c.in_ok-from.ensures.scope at c.in_ok-gate.ensures.made in
-    let j = c.in_ok-last.ensures.ok in
-    let v : c.in_ok-gate.gate.vertex.0 ≡ suc (suc (length c.lower_rel.new.made.items)) = ap (λ p. p.vertex) c.in_ok-gate.ensures.gives in
+    let o = rw c.in_ok-from.ensures.scope at c.in_ok-opened.ensures.made in
+    let j = rw (c.deref.ensures.value, c.in_ok-opened.ensures.once) at c.in_ok-last.ensures.ok in
+    let v : c.in_ok-opened.opened.0.vertex.0 ≡ suc (suc (length c.lower_rel.new.made.items)) = ap (λ p. p.vertex) c.in_ok-opened.ensures.gives in
     omega (arith, v, number_of c.lower_rel.new.made.items c.open_loop.new.made.items _ o, number_of c.open_loop.new.made.items c.lower_rel-2.new.made.items _ j.made)

@@ -18,5 +18,5 @@ finished-requires c = (joined (take c.loop-batch.batch-index c.batches-batches.r
 
 pub returns-clause-grouped : goal.returns-clause-grouped
 returns-clause-grouped c =
-    let all : joined (take c.loop-batch.batch-index c.batches-batches.result.now) ≡ c.args.pile.now.records = ap joined (take_all c.loop-batch.batch-index c.batches-batches.result.now (search rules)) ∙ c.batches-batches.ensures in
+    let all : joined (take c.loop-batch.batch-index c.batches-batches.result.now) ≡ c.args.pile.now.records = ap joined (take_all c.loop-batch.batch-index c.batches-batches.result.now (search rules)) ∙ c.batches-batches.ensures.records in
     c.in_ok-rows.ensures.grouped c.args.pile.now.records (subst (AreGroupsOf c.args.self.now.operator c.loop-batch.groups) all c.loop-batch.invariant)
