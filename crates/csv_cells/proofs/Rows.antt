@@ -8,7 +8,7 @@ use Rattle.std.proofs.lemmas.List.{map-append, append-nil, append_assoc}
 use Rattle.std.specs.Result.{OkIff, result_ok}
 use Rattle.csv.specs.Records.{field_at}
 use Rattle.csv.specs.Reading.{Reached, default_config}
-use Rattle.csv_cells.specs.Texts.{text_at, Grows}
+use Rattle.csv_cells.specs.Texts.{text_at, Grows, IsAdded}
 use Rattle.csv_cells.specs.Numbers.{IsDateText, date_text}
 use Rattle.csv_cells.specs.Cells.{Spells, Stands, StandsAs, StandsWith, plain}
 use Rattle.csv_cells.specs.Encoded.{SpellsAll, lines_text, line_text, numbers_text}
@@ -131,6 +131,11 @@ found-number (Err e) P n texts t h at = tt
 pub grown : {K : Type 0} (b : Bool) (v : K → List ℕ) (ks new : List K) (k : K) → new ≡ (if b then ks else ks ++ k ∷ []) → Grows (map v ks) (map v new)
 grown true v ks new k e = ([], ap (map v) e ∙ sym (append-nil (map v ks)))
 grown false v ks new k e = (v k ∷ [], ap (map v) e ∙ map-append v ks (k ∷ []))
+
+-- at most one text comes to the end
+pub one-added : {K : Type 0} (b : Bool) (v : K → List ℕ) (ks new : List K) (k : K) (text : List ℕ) → v k ≡ text → new ≡ (if b then ks else ks ++ k ∷ []) → IsAdded text (map v ks) (map v new)
+one-added true v ks new k text same e = inl (ap (map v) e)
+one-added false v ks new k text same e = inr (ap (map v) e ∙ map-append v ks (k ∷ []) ∙ ap (λ t. map v ks ++ t ∷ []) same)
 
 -- growth after growth
 pub grown-twice : (a b c : List (List ℕ)) → Grows a b → Grows b c → Grows a c

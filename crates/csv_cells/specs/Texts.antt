@@ -1,5 +1,5 @@
 -- The texts of a dictionary.
-use Rattle.std.specs.Prelude.{◌≡◌, ℕ, ℤ, pos, negsuc, List, ◌++◌, map, slice_get, Option, None}
+use Rattle.std.specs.Prelude.{◌≡◌, ◌⊎◌, ℕ, ℤ, pos, negsuc, List, [], ◌∷◌, ◌++◌, map, slice_get, Option, None}
 use Rattle.csv_cells.specs.declared.dictionary.Dictionary.{Dictionary}
 
 -- the texts of a dictionary, each at its number
@@ -14,3 +14,7 @@ text_at texts (negsuc n) = None
 -- texts may come to the end, and no text moves
 abbrev pub Grows : List (List ℕ) → List (List ℕ) → Type 0
 Grows old new = (more : List (List ℕ)) × (new ≡ old ++ more)
+
+-- the text was there, or came to the end
+abbrev pub IsAdded : List ℕ → (old new : List (List ℕ)) → Type 0
+IsAdded text old new = (new ≡ old) ⊎ (new ≡ old ++ text ∷ [])

@@ -1,7 +1,7 @@
 //! The dictionary: different texts, each at its place, from 0.
 
 ghost use Rattle.std.specs.Prelude.{◌≡◌, ◌↔◌, [], Some, IfOk, OnOk, IfSome, IsTrue, length, option_map, slice_get};
-ghost use Rattle.csv_cells.specs.Texts.{Grows, text_at, texts_of};
+ghost use Rattle.csv_cells.specs.Texts.{Grows, IsAdded, text_at, texts_of};
 
 use indexmap::IndexSet;
 use std::alloc::{AllocError, Global};
@@ -52,6 +52,7 @@ impl Dictionary {
     pub fn number(&mut self, alloc: Global, text: &[u8]) -> Result<Option<i64>, AllocError>
         ensures found { IfOk result (λ o. IfSome o (λ z. text_at (texts_of self.new) z ≡ Some text.now)) }
         ensures grows { OnOk result (Grows (texts_of self.old) (texts_of self.new)) }
+        ensures one { OnOk result (IsAdded text.now (texts_of self.old) (texts_of self.new)) }
     {
         if let Some(place) = self.place_of(text) {
             return Ok(i64::try_from(place).ok());

@@ -21,6 +21,3 @@ pub use dictionary::Dictionary;
 pub use encoding::{TextFault, append_line, encode_text};
 pub use laws::{law_read_by_grammar, through_numbers};
 pub use row::{RowFault, read_row, write_row};
-
-#[cfg(test)]
-mod tests;

@@ -1,5 +1,6 @@
 //! Trees that are far deeper than any text's.
 
+use crate::held::{boxed, put};
 use crate::texts::{refused, word};
 use expr_tree::{Comparison, Cond, Connective, Operator, Rel, Scalar, SetOperator};
 use record_core::{Name, NoMemory, Refusal, Span};
@@ -23,42 +24,70 @@ fn named() -> Result<Rel<Global>, NoMemory> {
     }
 }
 
+/// A sum of the negation of a scalar, in its place.
+fn grow_scalar(alloc: Global, scalar: &mut Scalar<Global>) -> Result<(), NoMemory> {
+    let negated = Scalar::negate(alloc, HERE, scalar.take())?;
+    put(
+        scalar,
+        Scalar::binary(alloc, HERE, Operator::Add, negated, one())?,
+    );
+    Ok(())
+}
+
+/// `and` of `not` of a condition, in its place.
+fn grow_condition(alloc: Global, condition: &mut Cond<Global>) -> Result<(), NoMemory> {
+    let negated = Cond::negate(alloc, HERE, condition.take())?;
+    put(
+        condition,
+        Cond::logical(alloc, HERE, Connective::And, negated, is_one())?,
+    );
+    Ok(())
+}
+
+/// `concat` of `distinct` of a relation, in its place.
+fn grow_relation(alloc: Global, relation: &mut Rel<Global>) -> Result<(), NoMemory> {
+    let mut right = boxed(alloc, named())?;
+    let distinct = Rel::distinct(alloc, HERE, relation.take())?;
+    put(
+        relation,
+        Rel::set_operation(alloc, HERE, SetOperator::Concat, distinct, right.take())?,
+    );
+    Ok(())
+}
+
 /// Negations and sums in turn, one in another, on the left.
-fn scalar_of(alloc: Global, depth: u32) -> Result<Scalar<Global>, NoMemory> {
-    let mut scalar = one();
+fn scalars(alloc: Global, depth: u32) -> Result<(), NoMemory> {
+    let mut scalar = Box::new(alloc, one())?;
     for _level in 0..depth / 2 {
-        let negated = Scalar::negate(alloc, HERE, scalar)?;
-        scalar = Scalar::binary(alloc, HERE, Operator::Add, negated, one())?;
+        grow_scalar(alloc, &mut scalar)?;
     }
-    Ok(scalar)
+    Ok(())
 }
 
 /// The same of `not` and `and`.
-fn condition_of(alloc: Global, depth: u32) -> Result<Cond<Global>, NoMemory> {
-    let mut condition = is_one();
+fn conditions(alloc: Global, depth: u32) -> Result<(), NoMemory> {
+    let mut condition = Box::new(alloc, is_one())?;
     for _level in 0..depth / 2 {
-        let negated = Cond::negate(alloc, HERE, condition)?;
-        condition = Cond::logical(alloc, HERE, Connective::And, negated, is_one())?;
+        grow_condition(alloc, &mut condition)?;
     }
-    Ok(condition)
+    Ok(())
 }
 
 /// The same of `distinct` and `concat`.
-fn relation_of(alloc: Global, depth: u32) -> Result<Rel<Global>, NoMemory> {
-    let mut relation = named()?;
+fn relations(alloc: Global, depth: u32) -> Result<(), NoMemory> {
+    let mut relation = boxed(alloc, named())?;
     for _level in 0..depth / 2 {
-        let distinct = Rel::distinct(alloc, HERE, relation)?;
-        relation = Rel::set_operation(alloc, HERE, SetOperator::Concat, distinct, named()?)?;
+        grow_relation(alloc, &mut relation)?;
     }
-    Ok(relation)
+    Ok(())
 }
 
 /// Makes a tree of a form and lets it go.
 fn made(alloc: Global, form: &str, depth: u32) -> Result<bool, NoMemory> {
     match form {
-        "scalars" => drop(scalar_of(alloc, depth)?),
-        "conditions" => drop(condition_of(alloc, depth)?),
-        "relations" => drop(relation_of(alloc, depth)?),
+        "scalars" => scalars(alloc, depth)?,
+        "conditions" => conditions(alloc, depth)?,
+        "relations" => relations(alloc, depth)?,
         _ => return Ok(false),
     }
     Ok(true)

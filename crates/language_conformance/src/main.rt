@@ -4,19 +4,23 @@
 //! Its words are pages (crate `pages`), with answers that were worked out by hand. It ends with status 1 if any line isn't as written.
 #![tactic(auto)]
 
+mod basics;
 mod canonical;
+mod cells;
 mod deep;
 mod graphs;
+mod held;
 mod nodes;
 mod normal;
 mod queries;
 mod questions;
+mod schedules;
 mod texts;
 mod tokens;
 mod trees;
 mod values;
 
-use crate::questions::{other_of, question_of};
+use crate::questions::{basic_of, other_of, question_of};
 use pages::{Blocks, all_hold, call_of, compared, play_on};
 use std::io;
 use std::process::ExitCode;
@@ -30,9 +34,14 @@ impl Blocks for Language {
             return Ok(0);
         };
         let question = call_of(first);
-        match (question_of(question), other_of(question)) {
-            (Some(question), _) => play_on(rt, first, Ok(question), lines),
-            (None, Some(other)) => play_on(rt, first, Ok(other), lines),
+        match (
+            question_of(question),
+            other_of(question),
+            basic_of(question),
+        ) {
+            (Some(question), _, _) => play_on(rt, first, Ok(question), lines),
+            (None, Some(other), _) => play_on(rt, first, Ok(other), lines),
+            (None, None, Some(basic)) => play_on(rt, first, Ok(basic), lines),
             _ => compared(rt, first, "no such question"),
         }
     }

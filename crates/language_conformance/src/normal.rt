@@ -1,5 +1,6 @@
 //! Normal forms, from text to text.
 
+use crate::held::put;
 use crate::texts::{quoted, word, yes_or_no};
 use bumpalo::Bump;
 use expr_tree::{Comparison, Cond, Operator, Program, Rel, Scalar, rel_size};
@@ -126,21 +127,31 @@ pub fn crowds(alloc: Global, query: &[u8]) -> Result<String, AllocError> {
 
 const HERE: Span = Span { start: 0, end: 1 };
 
-/// `select(OF; #0 + 1)`
-fn selected(alloc: Global, of: Rel<Global>) -> Result<Rel<Global>, NoMemory> {
+/// The scalars `#0 + 1`.
+fn one_more(alloc: Global) -> Result<Vec<Scalar<Global>>, NoMemory> {
     let left = Scalar::Column(HERE, 0);
     let right = Scalar::Literal(HERE, 1);
     let mut scalars = Vec::new(alloc);
     scalars.push(Scalar::binary(alloc, HERE, Operator::Add, left, right)?)?;
-    Rel::select(alloc, HERE, of, scalars)
+    Ok(scalars)
 }
 
-/// `where(OF; #0 = 1)`
-fn filtered(alloc: Global, of: Rel<Global>) -> Result<Rel<Global>, NoMemory> {
+/// `select(OF; #0 + 1)` in the place of a relation.
+fn put_select(alloc: Global, of: &mut Rel<Global>) -> Result<(), NoMemory> {
+    let scalars = one_more(alloc)?;
+    let select = Rel::select(alloc, HERE, of.take(), scalars)?;
+    put(of, select);
+    Ok(())
+}
+
+/// `where(OF; #0 = 1)` in the place of a relation.
+fn put_where(alloc: Global, of: &mut Rel<Global>) -> Result<(), NoMemory> {
     let left = Scalar::Column(HERE, 0);
     let right = Scalar::Literal(HERE, 1);
     let equal = Cond::Compare(HERE, Comparison::Equal, left, right);
-    Rel::filter(alloc, HERE, of, equal)
+    let filter = Rel::filter(alloc, HERE, of.take(), equal)?;
+    put(of, filter);
+    Ok(())
 }
 
 /// That many selects or wheres over a relation.
@@ -151,12 +162,11 @@ fn put_chain(
     wheres: bool,
 ) -> Result<(), NoMemory> {
     for _ in 0..count {
-        let of = relation.take();
-        *relation = if wheres {
-            filtered(alloc, of)?
+        if wheres {
+            put_where(alloc, relation)?;
         } else {
-            selected(alloc, of)?
-        };
+            put_select(alloc, relation)?;
+        }
     }
     Ok(())
 }

@@ -1,8 +1,12 @@
 //! The questions that blocks ask of their lines.
 
 use crate::texts::{text_of, two_texts, word};
-use crate::{canonical, deep, graphs, nodes, normal, queries, tokens, trees, values};
+use crate::{
+    basics, canonical, cells, deep, graphs, nodes, normal, queries, schedules, tokens, trees,
+    values,
+};
 use pages::Subject;
+use schedule::ViewKind;
 use std::alloc::{AllocError, Global};
 
 /// A question about one text.
@@ -111,6 +115,10 @@ pub enum Other {
     Comparison,
     Taken,
     Deep,
+    NameOrder,
+    Record,
+    RecordOrder,
+    Message,
 }
 
 /// Whether two texts have the same tree, or the same graph.
@@ -122,6 +130,14 @@ fn about_two(alloc: Global, of_graphs: bool, call: &str) -> Result<String, Alloc
             second.as_slice(),
         ),
         Some((first, second)) => trees::alike(alloc, first.as_slice(), second.as_slice()),
+        None => word(alloc, "no texts"),
+    }
+}
+
+/// Whether the first of two names is before the second.
+fn about_names(alloc: Global, call: &str) -> Result<String, AllocError> {
+    match two_texts(alloc, call)? {
+        Some((first, second)) => basics::are_in_order(alloc, first.as_slice(), second.as_slice()),
         None => word(alloc, "no texts"),
     }
 }
@@ -148,6 +164,10 @@ impl Subject for Other {
             Other::Comparison => values::comparison(alloc, call),
             Other::Taken => values::taken(alloc, call),
             Other::Deep => deep::let_go(alloc, call),
+            Other::NameOrder => about_names(alloc, call),
+            Other::Record => basics::record(alloc, call),
+            Other::RecordOrder => basics::is_before(alloc, call),
+            Other::Message => schedules::message(alloc, call),
         }
     }
 }
@@ -165,6 +185,58 @@ pub fn other_of(first: &str) -> Option<Other> {
         "comparison" => Some(Other::Comparison),
         "taken" => Some(Other::Taken),
         "deep trees" => Some(Other::Deep),
+        "order of names" => Some(Other::NameOrder),
+        "record" => Some(Other::Record),
+        "order of records" => Some(Other::RecordOrder),
+        "message" => Some(Other::Message),
+        _ => None,
+    }
+}
+
+/// A question about what is below all texts: numbers, names, records, and the lines of other files than queries.
+#[derive(Clone, Copy)]
+pub enum Basic {
+    Number,
+    SignedNumber,
+    Name,
+    Keyword,
+    Schedule,
+    LateSchedule,
+    Cells,
+}
+
+/// What is answered about a text.
+fn about_bytes(alloc: Global, question: Basic, text: &[u8]) -> Result<String, AllocError> {
+    match question {
+        Basic::Number => basics::unsigned(alloc, text),
+        Basic::SignedNumber => basics::signed(alloc, text),
+        Basic::Name => basics::name(alloc, text),
+        Basic::Keyword => basics::keyword(alloc, text),
+        Basic::Schedule => schedules::steps(alloc, ViewKind::Shared, text),
+        Basic::LateSchedule => schedules::steps(alloc, ViewKind::Local, text),
+        Basic::Cells => cells::encoded(alloc, text),
+    }
+}
+
+impl Subject for Basic {
+    fn answer(&mut self, alloc: Global, call: &str) -> Result<String, AllocError> {
+        match text_of(alloc, call)? {
+            Some(text) => about_bytes(alloc, *self, text.as_slice()),
+            None => word(alloc, "no text"),
+        }
+    }
+}
+
+/// The question of a block's first line.
+pub fn basic_of(first: &str) -> Option<Basic> {
+    match first {
+        "number" => Some(Basic::Number),
+        "signed number" => Some(Basic::SignedNumber),
+        "name" => Some(Basic::Name),
+        "keyword" => Some(Basic::Keyword),
+        "schedule" => Some(Basic::Schedule),
+        "schedule with late views" => Some(Basic::LateSchedule),
+        "cells" => Some(Basic::Cells),
         _ => None,
     }
 }

@@ -4,14 +4,16 @@ use record_core::{Refusal, Span};
 use std::alloc::{AllocError, Global};
 
 /// What stands for a byte after a `\`.
-const ESCAPES: [(&str, u8); 7] = [
+const ESCAPES: [(&str, u8); 9] = [
     ("n", b'\n'),
     ("r", b'\r'),
     ("t", b'\t'),
     ("v", 11),
     ("f", 12),
     ("0", 0),
+    ("q", b'"'),
     ("x80", 128),
+    ("xff", 255),
 ];
 
 /// Puts one escape, and what follows it up to the next `\`, at the end; false where it is none.

@@ -2,11 +2,11 @@
 
 use crate::texts::{refused, word, yes_or_no};
 use bumpalo::Bump;
-use expr_tree::same;
+use expr_tree::{Program, same};
 use linked_list_allocator::LocalHeap;
 use parser::parse;
 use record_core::Refusal;
-use std::alloc::{AllocError, Global};
+use std::alloc::{AllocError, Allocator, Global};
 
 /// An arena, and a heap of 65,536 bytes.
 #[derive(Drop)]
@@ -29,22 +29,37 @@ impl Places {
     }
 }
 
-/// Whether the trees that are read in memory, in an arena and in a heap are the same, and the copies of one of them in memory and in other places.
-fn are_same(alloc: Global, text: &[u8], places: &Places, others: &Places) -> Result<bool, Refusal> {
-    let first = parse(alloc, text)?;
+/// Whether the trees that are read in memory, in an arena and in a heap are the same.
+fn are_read(first: &Program<Global>, text: &[u8], places: &Places) -> Result<bool, Refusal> {
     let second = parse(&places.arena, text)?;
     let third = parse(&places.heap, text)?;
-    let whole = first.copy_in(alloc)?;
-    let in_arena = first.copy_in(&others.arena)?;
-    let in_heap = first.copy_in(&others.heap)?;
+    Ok(same(first, &second) && same(&second, &third))
+}
+
+/// Whether a copy is the same.
+fn is_copied<B: Allocator + Copy>(first: &Program<Global>, alloc: B) -> Result<bool, Refusal> {
+    Ok(same(first, &first.copy_in(alloc)?))
+}
+
+/// Whether a copy in a heap is the same, and a copy of that.
+fn is_copied_back(
+    alloc: Global,
+    first: &Program<Global>,
+    heap: &LocalHeap,
+) -> Result<bool, Refusal> {
+    let in_heap = first.copy_in(heap)?;
     let back = in_heap.copy_in(alloc)?;
+    Ok(same(first, &in_heap) && same(&back, first))
+}
+
+/// The same of all of them.
+fn are_same(alloc: Global, text: &[u8], places: &Places, others: &Places) -> Result<bool, Refusal> {
+    let first = parse(alloc, text)?;
     Ok(
-        same(&first, &second)
-            && same(&second, &third)
-            && same(&first, &whole)
-            && same(&first, &in_arena)
-            && same(&first, &in_heap)
-            && same(&back, &first),
+        are_read(&first, text, places)?
+            && is_copied(&first, alloc)?
+            && is_copied(&first, &others.arena)?
+            && is_copied_back(alloc, &first, &others.heap)?,
     )
 }
 

@@ -1,5 +1,6 @@
 //! Values of scalars and conditions, and places that children are taken from.
 
+use crate::held::boxed;
 use crate::texts::{refused, word, yes_or_no};
 use expr_tree::{
     Comparison, Cond, Operator, Rel, Scalar, cond_size, copy_cond, copy_rel, copy_scalar,
@@ -114,43 +115,57 @@ struct Removed {
     after: u64,
 }
 
-fn taken_condition(alloc: Global) -> Result<Removed, NoMemory> {
-    let mut condition = Cond::negate(alloc, HERE, is_two())?;
-    let whole = copy_cond(alloc, &condition)?;
-    let before = cond_size(&whole);
-    let is_same = same_cond(&condition.take(), &whole);
-    Ok(Removed {
+fn removed_condition(condition: &mut Cond<Global>, whole: &Cond<Global>) -> Removed {
+    let before = cond_size(whole);
+    let is_same = same_cond(&condition.take(), whole);
+    Removed {
         before,
         is_same,
-        after: cond_size(&condition),
-    })
+        after: cond_size(condition),
+    }
+}
+
+fn taken_condition(alloc: Global) -> Result<Removed, NoMemory> {
+    let mut condition = boxed(alloc, Cond::negate(alloc, HERE, is_two()))?;
+    let whole = boxed(alloc, copy_cond(alloc, &condition))?;
+    Ok(removed_condition(&mut condition, &whole))
+}
+
+fn removed_relation(relation: &mut Rel<Global>, whole: &Rel<Global>) -> Removed {
+    let before = rel_size(whole);
+    let is_same = same_rel(&relation.take(), whole);
+    Removed {
+        before,
+        is_same,
+        after: rel_size(relation),
+    }
 }
 
 fn taken_relation(alloc: Global) -> Result<Removed, NoMemory> {
     let Some(name) = Name::new(b"e") else {
         return Err(NoMemory);
     };
-    let mut relation = Rel::distinct(alloc, HERE, Rel::Named(HERE, name))?;
-    let whole = copy_rel(alloc, &relation)?;
-    let before = rel_size(&whole);
-    let is_same = same_rel(&relation.take(), &whole);
-    Ok(Removed {
+    let distinct = Rel::distinct(alloc, HERE, Rel::Named(HERE, name));
+    let mut relation = boxed(alloc, distinct)?;
+    let whole = boxed(alloc, copy_rel(alloc, &relation))?;
+    Ok(removed_relation(&mut relation, &whole))
+}
+
+fn removed_scalar(scalar: &mut Scalar<Global>, whole: &Scalar<Global>) -> Removed {
+    let before = scalar_size(whole);
+    let is_same = same_scalar(&scalar.take(), whole);
+    Removed {
         before,
         is_same,
-        after: rel_size(&relation),
-    })
+        after: scalar_size(scalar),
+    }
 }
 
 fn taken_scalar(alloc: Global) -> Result<Removed, NoMemory> {
-    let mut scalar = Scalar::negate(alloc, HERE, Scalar::Literal(HERE, 2))?;
-    let whole = copy_scalar(alloc, &scalar)?;
-    let before = scalar_size(&whole);
-    let is_same = same_scalar(&scalar.take(), &whole);
-    Ok(Removed {
-        before,
-        is_same,
-        after: scalar_size(&scalar),
-    })
+    let scalar = Scalar::negate(alloc, HERE, Scalar::Literal(HERE, 2));
+    let mut scalar = boxed(alloc, scalar)?;
+    let whole = boxed(alloc, copy_scalar(alloc, &scalar))?;
+    Ok(removed_scalar(&mut scalar, &whole))
 }
 
 /// What is taken from the place of a small tree.

@@ -21,6 +21,3 @@ pub use line::Line;
 pub use reading::read_schedule;
 pub use refusal::{Fault, ScheduleRefusal};
 pub use verb::ViewKind;
-
-#[cfg(test)]
-mod tests;

@@ -1,5 +1,8 @@
 //! Reads a schema.
 
+ghost use Rattle.std.specs.Prelude.{IfOk};
+ghost use Rattle.schema.specs.Text.{IsSchemaText};
+
 use crate::lines::{Line, LineError, read_line};
 use crate::refusal::{Fault, SchemaRefusal};
 use crate::tables::{Constant, Epochs, Schema, Table};
@@ -295,15 +298,16 @@ fn read_lines(alloc: Global, text: &[u8]) -> Result<(Schema, u64), SchemaRefusal
 }
 
 /// Reads a schema. A refusal names a faulty line: the first one, but that a table without columns and epochs that don't fit are found only at their ends.
-pub fn read_schema(alloc: Global, text: &[u8]) -> Result<Schema, SchemaRefusal> {
+pub fn read_schema(alloc: Global, text: &[u8]) -> Result<Schema, SchemaRefusal>
+    ensures { IfOk result (λ schema. IsSchemaText schema text.now) }
+{
     let (schema, line) = read_lines(alloc, text)?;
     if !have_epochs(schema.inputs.as_slice()) {
         let fault = Fault::NoEpochs;
         return Err(SchemaRefusal::At { fault, line });
     }
     let mut written = Vec::new(alloc);
-    push_schema(&mut written, alloc, &schema)?;
-    if written.as_slice() == text {
+    if push_schema(&mut written, alloc, &schema)? && written.as_slice() == text {
         Ok(schema)
     } else {
         let fault = Fault::Malformed;

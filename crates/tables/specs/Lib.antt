@@ -1,1 +1,4 @@
 pub mod Tables
+pub mod Files
+pub mod Answers
+pub mod Inputs

@@ -1,35 +1,49 @@
 //! An answer as a CSV file.
 
-ghost use Rattle.std.specs.Prelude.{IfOk, IfSome, map};
-ghost use Rattle.csv_cells.specs.Cells.{Spells};
+ghost use Rattle.std.specs.Prelude.{◌≡◌, ◌≢◌, ◌++◌, List, IfNone, IfOk, IfSome, OnOk, codes, false, true, map, option_map, ℕ};
 ghost use Rattle.csv_cells.specs.Texts.{texts_of};
+ghost use Rattle.tables.specs.Answers.{Adds, AreDecoded, Begins, HasCells, IsDecoded, IsEpoch, IsOfRecord, IsOutput, label_for, where_of, words_text};
+ghost use Rattle.tables.specs.Files.{IsFile};
 
 use crate::refusal::{Fault, TableRefusal};
-use csv::{Writer, WriterBuilder};
+use crate::writing::{finish, new_file, write_cells};
+use csv::Writer;
 use csv_cells::{Column, Dictionary, write_row};
 use decimal::{number, signed_number};
 use schema::Table;
 use std::alloc::{AllocError, Global};
 
 /// The numbers of a line, each after one space but the first; `None` if a word is no number.
-fn numbers_of(alloc: Global, line: &[u8]) -> Result<Option<Vec<i64>>, AllocError> {
+fn numbers_of(alloc: Global, line: &[u8]) -> Result<Option<Vec<i64>>, AllocError>
+    ensures { IfOk result (λ o. IfSome o (λ v. line.now ≡ words_text v.items)) }
+{
     let mut numbers = Vec::new(alloc);
-    for word in line.split(|byte| *byte == b' ') {
-        match signed_number(word) {
-            Some(number) => numbers.push(number)?,
-            None => return Ok(None),
+    let mut begin = 0;
+    for end in 0..line.len() {
+        if line[end] == b' ' {
+            let Some(number) = signed_number(&line[begin..end]) else {
+                return Ok(None);
+            };
+            numbers.push(number)?;
+            begin = end + 1;
         }
     }
+    let Some(number) = signed_number(&line[begin..]) else {
+        return Ok(None);
+    };
+    numbers.push(number)?;
     Ok(Some(numbers))
 }
 
 /// The cells of a line of an answer, `None` if it has none in these columns.
-pub fn cells_of(
+fn cells_of(
     alloc: Global,
     columns: &[Column],
     dictionary: &Dictionary,
     line: &[u8],
-) -> Result<Option<Vec<Vec<u8>>>, AllocError> {
+) -> Result<Option<Vec<Vec<u8>>>, AllocError>
+    ensures { IfOk result (λ o. IfSome o (λ v. HasCells columns.now (texts_of dictionary.now) line.now (map (λ w. w.items) v.items))) }
+{
     match numbers_of(alloc, line)? {
         Some(numbers) => write_row(alloc, columns, dictionary, numbers.as_slice()),
         None => Ok(None),
@@ -45,38 +59,64 @@ struct Place<'a> {
     is_asked: bool,
 }
 
+/// What comes after a word, if a line begins with it.
+fn after<'a>(line: &'a [u8], word: &[u8]) -> Option<&'a [u8]>
+    ensures some { IfSome result (λ rest. line.now ≡ word.now ++ rest.now) }
+    ensures none { IfNone result ((rest : List ℕ) → line.now ≢ word.now ++ rest) }
+{
+    line.strip_prefix(word)
+}
+
+/// The number of the epoch that a line begins, as a text.
+fn epoch_of<'a>(line: &'a [u8]) -> Option<&'a [u8]>
+    ensures some { IfSome result (λ epoch. IsEpoch line.now epoch.now) }
+    ensures none { IfNone result ((epoch : List ℕ) → ¬ IsEpoch line.now epoch) }
+{
+    let word = after(line, b"epoch ")?;
+    match number(word) {
+        Some(_) => Some(word),
+        None => None,
+    }
+}
+
+/// The name of the output that a line begins.
+fn output_of<'a>(line: &'a [u8]) -> Option<&'a [u8]>
+    ensures some { IfSome result (λ name. IsOutput line.now name.now) }
+    ensures none { IfNone result ((name : List ℕ) → ¬ IsOutput line.now name) }
+{
+    after(line, b"output ")
+}
+
 /// A line that begins an epoch or an output, and whether it is one.
-fn take_head<'a>(place: &mut Place<'a>, table: &Table, line: &'a [u8]) -> bool {
-    if let Some(word) = line.strip_prefix(b"epoch ") {
-        if number(word).is_some() {
-            place.epoch = word;
+fn take_head<'a>(place: &mut Place<'a>, table: &Table, line: &'a [u8]) -> bool
+    ensures head { result ≡ true → Begins table.now.name.items line.now (where_of place.old) (where_of place.new) }
+    ensures other { result ≡ false → IsOfRecord line.now }
+    ensures same { result ≡ false → where_of place.new ≡ where_of place.old }
+{
+    match epoch_of(line) {
+        Some(epoch) => {
+            place.epoch = epoch;
             place.is_asked = table.name.as_slice() == b"out".as_slice();
-            return true;
+            true
         }
+        None => match output_of(line) {
+            Some(name) => {
+                place.is_asked = name == table.name.as_slice();
+                true
+            }
+            None => false,
+        },
     }
-    if let Some(name) = line.strip_prefix(b"output ") {
-        place.is_asked = name == table.name.as_slice();
-        return true;
-    }
-    false
 }
 
-/// Writes a record. `None` if the writer fails, as one of bytes does only for lack of memory.
-fn write_cells(
-    writer: &mut Writer<Vec<u8>>,
-    epoch: Option<&[u8]>,
-    cells: &[Vec<u8>],
-) -> Option<()> {
-    if let Some(epoch) = epoch {
-        writer.write_field(epoch).ok()?;
-    }
-    for cell in cells {
-        writer.write_field(cell).ok()?;
-    }
-    writer.end_record().ok()
+/// The first cell of a row, if it is the number of the epoch.
+fn label<'a>(with_epochs: bool, epoch: &'a [u8]) -> Option<&'a [u8]>
+    ensures { option_map (λ s. s.now) result ≡ label_for with_epochs epoch.now }
+{
+    if with_epochs { Some(epoch) } else { None }
 }
 
-/// Writes the line of an answer, if it is a record of the output that is asked for.
+/// Writes the line of an answer, if it is a record of the output that is asked for; false if it has no cells.
 fn write_line<'a>(
     alloc: Global,
     table: &Table,
@@ -85,73 +125,89 @@ fn write_line<'a>(
     place: &mut Place<'a>,
     writer: &mut Writer<Vec<u8>>,
     line: &'a [u8],
-) -> Result<bool, AllocError> {
-    if take_head(place, table, line) || !place.is_asked {
+) -> Result<bool, AllocError>
+    ensures { IfOk result (λ found. found ≡ true → (rows : List (List (List ℕ))) → IsFile writer.old rows
+        → (more : List (List (List ℕ))) × Adds table.now with_epochs (texts_of dictionary.now) (where_of place.old) line.now more (where_of place.new) × IsFile writer.new (rows ++ more)) }
+{
+    if take_head(place, table, line) {
+        return Ok(true);
+    }
+    if !place.is_asked {
         return Ok(true);
     }
     let Some(cells) = cells_of(alloc, &table.columns, dictionary, line)? else {
         return Ok(false);
     };
-    let epoch = if with_epochs { Some(place.epoch) } else { None };
-    match write_cells(writer, epoch, cells.as_slice()) {
+    match write_cells(writer, label(with_epochs, place.epoch), cells.as_slice()) {
         Some(()) => Ok(true),
         None => Err(AllocError),
     }
 }
 
-/// What was written.
-fn finish(writer: Writer<Vec<u8>>) -> Result<Vec<u8>, TableRefusal> {
-    match writer.into_inner() {
-        Ok(text) => Ok(text),
-        Err(_) => Err(TableRefusal::NoMemory),
-    }
+/// The refusal of a line of an answer.
+fn refused(line: u64) -> TableRefusal {
+    let fault = Fault::Answer;
+    TableRefusal::At { fault, line }
 }
 
-/// The CSV file of an answer that ends with no line feed, which is right only if it is empty.
-fn empty_answer(writer: Writer<Vec<u8>>, answer: &[u8]) -> Result<Vec<u8>, TableRefusal> {
-    if answer.is_empty() {
-        return finish(writer);
+/// Writes the lines of an answer.
+fn write_lines(
+    alloc: Global,
+    table: &Table,
+    with_epochs: bool,
+    dictionary: &Dictionary,
+    writer: &mut Writer<Vec<u8>>,
+    answer: &[u8],
+) -> Result<(), TableRefusal>
+    ensures { OnOk result ((rows : List (List (List ℕ))) → IsFile writer.old rows
+        → (more : List (List (List ℕ))) × AreDecoded table.now with_epochs (texts_of dictionary.now) answer.now more × IsFile writer.new (rows ++ more)) }
+{
+    let mut place = Place {
+        epoch: b"",
+        is_asked: false,
+    };
+    let mut line = 0u64;
+    let mut begin = 0;
+    for end in 0..answer.len() {
+        if answer[end] == b'\n' {
+            line = line.saturating_add(1);
+            let text = &answer[begin..end];
+            if !write_line(
+                alloc,
+                table,
+                with_epochs,
+                dictionary,
+                &mut place,
+                writer,
+                text,
+            )? {
+                return Err(refused(line));
+            }
+            begin = end + 1;
+        }
     }
-    let fault = Fault::Answer;
-    Err(TableRefusal::At { fault, line: 1 })
+    if begin < answer.len() {
+        return Err(refused(line.saturating_add(1)));
+    }
+    Ok(())
 }
 
 /// The CSV file of an output, by the text of an answer: a header row, and the records in the answer's order. With epochs the first column is the epoch's
-/// number. A refusal is of the first line that isn't one of the answer, or has a number that stands for no cell.
+/// number. A refusal is of the first line that isn't one of the answer, has a number that stands for no cell, or doesn't end.
 pub fn decode(
     alloc: Global,
     table: &Table,
     with_epochs: bool,
     dictionary: &Dictionary,
     answer: &[u8],
-) -> Result<Vec<u8>, TableRefusal> {
-    let mut writer = WriterBuilder::new().from_writer(Vec::new(alloc));
-    let label: Option<&[u8]> = if with_epochs { Some(b"epoch") } else { None };
-    if write_cells(&mut writer, label, table.headers.as_slice()).is_none() {
+) -> Result<Vec<u8>, TableRefusal>
+    ensures { IfOk result (λ file. IsDecoded table.now with_epochs (texts_of dictionary.now) answer.now file.items) }
+{
+    let mut writer = new_file(alloc);
+    let first = label(with_epochs, b"epoch");
+    let Some(()) = write_cells(&mut writer, first, table.headers.as_slice()) else {
         return Err(TableRefusal::NoMemory);
-    }
-    let mut place = Place {
-        epoch: b"",
-        is_asked: false,
     };
-    let mut line = 0u64;
-    let Some(lines) = answer.strip_suffix(b"\n") else {
-        return empty_answer(writer, answer);
-    };
-    for text in lines.split(|byte| *byte == b'\n') {
-        line = line.saturating_add(1);
-        if !write_line(
-            alloc,
-            table,
-            with_epochs,
-            dictionary,
-            &mut place,
-            &mut writer,
-            text,
-        )? {
-            let fault = Fault::Answer;
-            return Err(TableRefusal::At { fault, line });
-        }
-    }
+    write_lines(alloc, table, with_epochs, dictionary, &mut writer, answer)?;
     finish(writer)
 }

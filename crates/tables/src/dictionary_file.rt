@@ -1,102 +1,131 @@
 //! The file of a dictionary: a CSV file of one column, with the header `text`, in which a text's number is its record's, from 0.
 
-use crate::header::{first_end, is_header};
-use crate::refusal::{Fault, TableRefusal};
-use csv::{ByteRecord, ReaderBuilder, WriterBuilder};
-use csv_cells::{Column, Dictionary, Empty, Kind, write_cell};
+ghost use Rattle.std.specs.Prelude.{◌≡◌, ◌∷◌, ◌++◌, [], IfOk, OnOk, List, Some, map, slice_get, true, ℕ};
+ghost use Rattle.csv.specs.Records.{fields_of};
+ghost use Rattle.csv_cells.specs.Texts.{texts_of};
+ghost use Rattle.tables.specs.Files.{IsDictionaryFile, IsFile, dictionary_rows};
+ghost use Rattle.tables.specs.Tables.{IsReadDictionary};
+
+use crate::header::under_header;
+use crate::refusal::{Fault, RecordFault, TableRefusal};
+use crate::writing::{finish, new_file, write_cells};
+use csv::{ByteRecord, Writer};
+use csv_cells::Dictionary;
 use csv_strict::{check_text, line_of_record};
 use std::alloc::Global;
 
 /// The name of the only column.
 const HEADER: &[u8] = b"text";
 
-/// Adds the text of a record, which is the next of the dictionary.
+/// Adds the text of a record, which is the next of the dictionary. False if the record has another number of cells, or the text is there.
 fn add_text(
     alloc: Global,
     dictionary: &mut Dictionary,
-    record: &ByteRecord,
-) -> Result<bool, TableRefusal> {
+    row: &ByteRecord,
+) -> Result<bool, TableRefusal>
+    ensures { IfOk result (λ added. added ≡ true → (text : List ℕ) × (fields_of row.now ≡ text ∷ []) × (texts_of dictionary.new ≡ texts_of dictionary.old ++ text ∷ [])) }
+{
     let count = dictionary.len();
-    match record.get(0) {
-        Some(text) if record.len() == 1 => {
-            dictionary.number(alloc, text)?;
-            Ok(dictionary.len() > count)
-        }
-        _ => Ok(false),
+    if row.len() != 1 {
+        return Ok(false);
+    }
+    let Some(text) = row.get(0) else {
+        return Ok(false);
+    };
+    dictionary.number(alloc, text)?;
+    if dictionary.len() > count {
+        Ok(true)
+    } else {
+        Ok(false)
     }
 }
 
-/// Adds the texts of the records.
-fn add_texts(
-    alloc: Global,
-    dictionary: &mut Dictionary,
-    text: &[u8],
-    rows: &[u8],
-) -> Result<(), TableRefusal> {
-    let reader = ReaderBuilder::new()
-        .has_headers(false)
-        .flexible(true)
-        .from_reader(alloc, rows);
+/// The names of the columns.
+fn names(alloc: Global) -> Result<Vec<Vec<u8>>, TableRefusal>
+    ensures { IfOk result (λ names. map (λ v. v.items) names.items ≡ HEADER.now ∷ []) }
+{
+    let mut names = Vec::new(alloc);
+    names.push(Vec::from_slice(alloc, HEADER)?)?;
+    Ok(names)
+}
+
+/// The texts of the records under the header row.
+fn read_texts(alloc: Global, text: &[u8]) -> Result<Dictionary, TableRefusal>
+    ensures { IfOk result (λ dictionary. IsReadDictionary text.now (texts_of dictionary)) }
+{
+    let names = names(alloc)?;
+    let reader = match under_header(alloc, text, names.as_slice()) {
+        Ok(reader) => reader,
+        Err(RecordFault::Fault(fault)) => return Err(TableRefusal::At { fault, line: 1 }),
+        Err(RecordFault::NoMemory) => return Err(TableRefusal::NoMemory),
+    };
+    let mut dictionary = Dictionary::new(alloc);
     let mut count = 1u64;
-    for record in reader.into_byte_records() {
-        let Ok(record) = record else {
+    for row in reader.into_byte_records() {
+        let Ok(row) = row else {
             return Err(TableRefusal::NoMemory);
         };
-        if !add_text(alloc, dictionary, &record)? {
+        if !add_text(alloc, &mut dictionary, &row)? {
             let fault = Fault::Dictionary;
             let line = line_of_record(text, count);
             return Err(TableRefusal::At { fault, line });
         }
         count = count.saturating_add(1);
     }
-    Ok(())
+    Ok(dictionary)
 }
 
 /// Reads the file of a dictionary. An empty one has no texts.
-pub fn read_dictionary(alloc: Global, text: &[u8]) -> Result<Dictionary, TableRefusal> {
-    let mut dictionary = Dictionary::new(alloc);
+pub fn read_dictionary(alloc: Global, text: &[u8]) -> Result<Dictionary, TableRefusal>
+    ensures { IfOk result (λ dictionary. IsReadDictionary text.now (texts_of dictionary)) }
+{
     if text.is_empty() {
-        return Ok(dictionary);
+        return Ok(Dictionary::new(alloc));
     }
     if let Err(refusal) = check_text(text) {
         let fault = Fault::Text(refusal.fault);
         let line = refusal.line;
         return Err(TableRefusal::At { fault, line });
     }
-    let end = first_end(text).min(text.len());
-    let mut names = Vec::new(alloc);
-    names.push(Vec::from_slice(alloc, HEADER)?)?;
-    if !is_header(alloc, &text[..end], names.as_slice())? {
-        let fault = Fault::Header;
-        return Err(TableRefusal::At { fault, line: 1 });
+    read_texts(alloc, text)
+}
+
+/// Writes the text of that number.
+fn write_text(
+    writer: &mut Writer<Vec<u8>>,
+    dictionary: &Dictionary,
+    number: usize,
+) -> Result<(), TableRefusal>
+    ensures { OnOk result ((rows : List (List (List ℕ))) → IsFile writer.old rows
+        → (text : List ℕ) × (slice_get (texts_of dictionary.now) number ≡ Some text) × IsFile writer.new (rows ++ (text ∷ []) ∷ [])) }
+{
+    let Ok(number) = i64::try_from(number) else {
+        return Err(TableRefusal::NoMemory);
+    };
+    let Some(text) = dictionary.text(number) else {
+        return Err(TableRefusal::NoMemory);
+    };
+    match write_cells(writer, Some(text), &[]) {
+        Some(()) => Ok(()),
+        None => Err(TableRefusal::NoMemory),
     }
-    add_texts(alloc, &mut dictionary, text, &text[end..])?;
-    Ok(dictionary)
 }
 
 /// The text of a dictionary's file.
-pub fn dictionary_text(alloc: Global, dictionary: &Dictionary) -> Result<Vec<u8>, TableRefusal> {
-    let column = Column {
-        kind: Kind::Text,
-        empty: Empty::Kept,
-    };
-    let mut writer = WriterBuilder::new().from_writer(Vec::new(alloc));
-    let mut cell = Vec::new(alloc);
-    if writer.write_field(HEADER).is_err() || writer.end_record().is_err() {
+pub fn dictionary_text(alloc: Global, dictionary: &Dictionary) -> Result<Vec<u8>, TableRefusal>
+    ensures { IfOk result (λ text. IsDictionaryFile (texts_of dictionary.now) text.items) }
+{
+    let mut writer = new_file(alloc);
+    let Some(()) = write_cells(&mut writer, Some(HEADER), &[]) else {
         return Err(TableRefusal::NoMemory);
-    }
+    };
     for place in 0..dictionary.len() {
-        let Ok(number) = i64::try_from(place) else {
-            return Err(TableRefusal::NoMemory);
-        };
-        cell.clear();
-        write_cell(column, dictionary, number, &mut cell)?;
-        if writer.write_field(cell.as_slice()).is_err() || writer.end_record().is_err() {
-            return Err(TableRefusal::NoMemory);
-        }
+        write_text(&mut writer, dictionary, place)?;
     }
-    match writer.into_inner() {
-        Ok(text) => Ok(text),
-        Err(_) => Err(TableRefusal::NoMemory),
-    }
+    finish(writer)
 }
+
+/// A dictionary's file that is read gives the texts that were written, and no others.
+pub fn law_read_again()
+    ensures { (texts others : List (List ℕ)) (file : List ℕ) → IsDictionaryFile texts file → IsReadDictionary file others → others ≡ texts }
+{}

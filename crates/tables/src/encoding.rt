@@ -1,15 +1,30 @@
 //! CSV files as an input text.
 
-use crate::header::{first_end, is_header};
+ghost use Rattle.std.specs.Prelude.{◌≡◌, ◌++◌, ◌∷◌, [], IfOk, OnOk, codes, get_or, map};
+ghost use Rattle.std.specs.List.{list_any};
+ghost use Rattle.csv.specs.Reading.{strip_bom};
+ghost use Rattle.csv_cells.specs.Texts.{Grows, texts_of};
+ghost use Rattle.tables.specs.Inputs.{AreJoined, IsEncodedFile, IsInput, IsPart, has_own};
+
 use crate::refusal::{EncodeRefusal, Fault, RecordFault, TableRefusal};
 use crate::rows::{Target, encode_rows};
 use csv_cells::Dictionary;
 use csv_strict::{check_text, line_of_record};
-use schema::{Epochs, Schema, Table};
-use std::alloc::Global;
+use schema::{Constant, Epochs, Schema, Table};
+use std::alloc::{AllocError, Global};
 
 /// What a byte order mark is, which may stand before a text.
 const MARK: &[u8] = b"\xEF\xBB\xBF";
+
+/// A text without the byte order mark that may stand before it.
+fn without_mark(file: &[u8]) -> &[u8]
+    ensures { result.now ≡ strip_bom file.now }
+{
+    match file.strip_prefix(MARK) {
+        Some(text) => text,
+        None => file,
+    }
+}
 
 /// The lines of a table's file. A refusal is of its first fault: of its text, its header row, or its records.
 fn encode_table(
@@ -18,77 +33,141 @@ fn encode_table(
     shared: &[u8],
     dictionary: &mut Dictionary,
     file: &[u8],
-) -> Result<Vec<u8>, TableRefusal> {
-    let text = file.strip_prefix(MARK).unwrap_or(file);
+) -> Result<Vec<u8>, TableRefusal>
+    ensures encoded { IfOk result (λ lines. IsEncodedFile table.now shared.now file.now (texts_of dictionary.new) lines.items) }
+    ensures grows { OnOk result (Grows (texts_of dictionary.old) (texts_of dictionary.new)) }
+{
+    let text = without_mark(file);
     if let Err(refusal) = check_text(text) {
         let fault = Fault::Text(refusal.fault);
         let line = refusal.line;
         return Err(TableRefusal::At { fault, line });
-    }
-    let end = first_end(text).min(text.len());
-    if !is_header(alloc, &text[..end], table.headers.as_slice())? {
-        let fault = Fault::Header;
-        return Err(TableRefusal::At { fault, line: 1 });
     }
     let target = Target {
         epochs: table.epochs,
         name: &table.name,
         shared,
     };
-    match encode_rows(alloc, &table.columns, target, dictionary, &text[end..]) {
+    match encode_rows(
+        alloc,
+        &table.headers,
+        &table.columns,
+        target,
+        dictionary,
+        text,
+    ) {
         Ok(lines) => Ok(lines),
         Err(refusal) => match refusal.fault {
             RecordFault::NoMemory => Err(TableRefusal::NoMemory),
             RecordFault::Fault(fault) => {
-                let line = line_of_record(text, refusal.count.saturating_add(1));
+                let line = line_of_record(text, refusal.count);
                 Err(TableRefusal::At { fault, line })
             }
         },
     }
 }
 
-/// The text of a file.
-fn text_of<'a>(files: &'a [Vec<u8>], file: usize) -> &'a [u8] {
-    match files.get(file) {
-        Some(text) => text.as_slice(),
-        None => b"",
+/// Whether a table has an epoch for each value of a column.
+fn has_own(epochs: Epochs) -> bool
+    ensures { result ≡ has_own epochs }
+{
+    match epochs {
+        Epochs::One | Epochs::Every => false,
+        Epochs::By(_) => true,
     }
 }
 
-/// Appends the lines of the tables that have no epoch for each value, or of the one that has.
+/// The lines of a table, if it is one of those with epochs of their own, or of the others.
+fn encode_part(
+    alloc: Global,
+    table: &Table,
+    own: bool,
+    shared: &[u8],
+    dictionary: &mut Dictionary,
+    file: &[u8],
+) -> Result<Vec<u8>, TableRefusal>
+    ensures part { IfOk result (λ lines. IsPart own table.now shared.now file.now (texts_of dictionary.new) lines.items) }
+    ensures grows { OnOk result (Grows (texts_of dictionary.old) (texts_of dictionary.new)) }
+{
+    if has_own(table.epochs) != own {
+        return Ok(Vec::new(alloc));
+    }
+    encode_table(alloc, table, shared, dictionary, file)
+}
+
+/// The text of a file.
+fn text_of<'a>(files: &'a [Vec<u8>], file: usize) -> &'a [u8]
+    ensures { result.now ≡ get_or (map (λ v. v.items) files.now) file [] }
+{
+    if file < files.len() {
+        files[file].as_slice()
+    } else {
+        b""
+    }
+}
+
+/// The lines of the tables with epochs of their own, or of the others.
 fn encode_some(
     alloc: Global,
     schema: &Schema,
-    is_by: bool,
+    own: bool,
     shared: &[u8],
     dictionary: &mut Dictionary,
     files: &[Vec<u8>],
-) -> Result<Vec<u8>, EncodeRefusal> {
+) -> Result<Vec<u8>, EncodeRefusal>
+    ensures joined { IfOk result (λ out. AreJoined own shared.now (map (λ v. v.items) files.now) (texts_of dictionary.new) 0 schema.now.inputs.items out.items) }
+    ensures grows { OnOk result (Grows (texts_of dictionary.old) (texts_of dictionary.new)) }
+{
     let mut out = Vec::new(alloc);
-    for (file, table) in schema.inputs.iter().enumerate() {
-        if matches!(table.epochs, Epochs::By(_)) != is_by {
-            continue;
-        }
+    for file in 0..schema.inputs.len() {
         let text = text_of(files, file);
-        match encode_table(alloc, table, shared, dictionary, text) {
+        let lines = match encode_part(alloc, &schema.inputs[file], own, shared, dictionary, text) {
+            Ok(lines) => lines,
             Err(refusal) => return Err(EncodeRefusal { file, refusal }),
-            Ok(lines) => {
-                if out.extend_from_slice(lines.as_slice()).is_err() {
-                    let refusal = TableRefusal::NoMemory;
-                    return Err(EncodeRefusal { file, refusal });
-                }
-            }
+        };
+        if out.extend_from_slice(lines.as_slice()).is_err() {
+            let refusal = TableRefusal::NoMemory;
+            return Err(EncodeRefusal { file, refusal });
         }
     }
     Ok(out)
 }
 
 /// Whether a table has an epoch for each value of a column.
-fn has_epochs(schema: &Schema) -> bool {
-    schema
-        .inputs
-        .iter()
-        .any(|table| matches!(table.epochs, Epochs::By(_)))
+fn has_epochs(tables: &[Table]) -> bool
+    ensures { result ≡ list_any (λ table. has_own table.epochs) tables.now }
+{
+    tables.iter().any(|table| has_own(table.epochs))
+}
+
+/// Puts the constants into the dictionary.
+fn number_constants(
+    alloc: Global,
+    constants: &[Constant],
+    dictionary: &mut Dictionary,
+) -> Result<(), AllocError>
+    ensures { OnOk result (Grows (texts_of dictionary.old) (texts_of dictionary.new)) }
+{
+    for i in 0..constants.len() {
+        dictionary.number(alloc, constants[i].text.as_slice())?;
+    }
+    Ok(())
+}
+
+/// One epoch of these lines.
+fn one_epoch(alloc: Global, lines: &[u8]) -> Result<Vec<u8>, AllocError>
+    ensures { IfOk result (λ out. out.items ≡ codes "epoch" ++ 10 ∷ lines.now) }
+{
+    let mut out = Vec::new(alloc);
+    out.extend_from_slice(b"epoch\n")?;
+    out.extend_from_slice(lines)?;
+    Ok(out)
+}
+
+/// Lack of memory, told of the first file.
+fn no_memory() -> EncodeRefusal {
+    let refusal = TableRefusal::NoMemory;
+    EncodeRefusal { file: 0, refusal }
 }
 
 /// The input text of the files, one for each input of the schema, in its order. New texts go to the end of the dictionary, the constants first.
@@ -99,23 +178,20 @@ pub fn encode(
     schema: &Schema,
     dictionary: &mut Dictionary,
     files: &[Vec<u8>],
-) -> Result<Vec<u8>, EncodeRefusal> {
-    for constant in &schema.constants {
-        if dictionary.number(alloc, &constant.text).is_err() {
-            let refusal = TableRefusal::NoMemory;
-            return Err(EncodeRefusal { file: 0, refusal });
-        }
+) -> Result<Vec<u8>, EncodeRefusal>
+    ensures input { IfOk result (λ out. IsInput schema.now (map (λ v. v.items) files.now) (texts_of dictionary.new) out.items) }
+    ensures grows { OnOk result (Grows (texts_of dictionary.old) (texts_of dictionary.new)) }
+{
+    if number_constants(alloc, schema.constants.as_slice(), dictionary).is_err() {
+        return Err(no_memory());
     }
     let shared = encode_some(alloc, schema, false, b"", dictionary, files)?;
-    if has_epochs(schema) {
-        return encode_some(alloc, schema, true, shared.as_slice(), dictionary, files);
+    if has_epochs(schema.inputs.as_slice()) {
+        let out = encode_some(alloc, schema, true, shared.as_slice(), dictionary, files)?;
+        return Ok(out);
     }
-    let mut out = Vec::new(alloc);
-    if out.extend_from_slice(b"epoch\n").is_err()
-        || out.extend_from_slice(shared.as_slice()).is_err()
-    {
-        let refusal = TableRefusal::NoMemory;
-        return Err(EncodeRefusal { file: 0, refusal });
+    match one_epoch(alloc, shared.as_slice()) {
+        Ok(out) => Ok(out),
+        Err(_) => Err(no_memory()),
     }
-    Ok(out)
 }

@@ -1,43 +1,54 @@
 //! The header row of a CSV text.
 
-use csv::{ByteRecord, ReaderBuilder};
-use csv_strict::State;
-use std::alloc::{AllocError, Global};
+ghost use Rattle.std.specs.Prelude.{◌≡◌, ◌↔◌, IfErr, IfOk, IsTrue, map};
+ghost use Rattle.csv.specs.Records.{fields_of};
+ghost use Rattle.tables.specs.Tables.{IsAfterHeader, IsRefusedHeader};
 
-/// The place of the line feed that ends the first record of a text; the text's length if none does.
-pub fn first_end(text: &[u8]) -> usize {
-    let mut state = State::Record;
-    for place in 0..text.len() {
-        match state.next(text[place]) {
-            Some(State::Record) | None => return place,
-            Some(next) => state = next,
-        }
-    }
-    text.len()
-}
+use crate::refusal::{Fault, RecordFault};
+use csv::{ByteRecord, Reader, ReaderBuilder};
+use std::alloc::Global;
 
 /// Whether a record has exactly these cells.
-fn has_cells(record: &ByteRecord, cells: &[Vec<u8>]) -> bool {
-    if record.len() != cells.len() {
+fn has_cells(row: &ByteRecord, cells: &[Vec<u8>]) -> bool
+    ensures { IsTrue result ↔ (fields_of row.now ≡ map (λ v. v.items) cells.now) }
+{
+    if row.len() != cells.len() {
         return false;
     }
-    for (i, cell) in cells.iter().enumerate() {
-        match record.get(i) {
-            Some(found) if found == cell.as_slice() => {}
-            _ => return false,
+    for i in 0..cells.len() {
+        let Some(found) = row.get(i) else {
+            return false;
+        };
+        if found != cells[i].as_slice() {
+            return false;
         }
     }
     true
 }
 
-/// Whether a text is one record of exactly these cells.
-pub fn is_header(alloc: Global, text: &[u8], names: &[Vec<u8>]) -> Result<bool, AllocError> {
+/// The records of a text after its header row, whose cells are to be these names.
+pub fn under_header<'a>(
+    alloc: Global,
+    text: &'a [u8],
+    names: &[Vec<u8>],
+) -> Result<Reader<&'a [u8]>, RecordFault>
+    ensures found { IfOk result (λ reader. IsAfterHeader (map (λ v. v.items) names.now) text.now reader) }
+    ensures refused { IfErr result (λ fault. IsRefusedHeader (map (λ v. v.items) names.now) text.now fault) }
+{
     let mut reader = ReaderBuilder::new()
         .has_headers(false)
+        .flexible(true)
         .from_reader(alloc, text);
-    let mut record = ByteRecord::new(alloc);
-    match reader.read_byte_record(&mut record) {
-        Ok(found) => Ok(found && has_cells(&record, names)),
-        Err(_) => Err(AllocError),
+    let mut row = ByteRecord::new(alloc);
+    match reader.read_byte_record(&mut row) {
+        Ok(true) => {
+            if has_cells(&row, names) {
+                Ok(reader)
+            } else {
+                Err(RecordFault::Fault(Fault::Header))
+            }
+        }
+        Ok(false) => Err(RecordFault::Fault(Fault::Header)),
+        Err(_) => Err(RecordFault::NoMemory),
     }
 }

@@ -64,7 +64,7 @@ pub fn fault_of_row(fault: RowFault) -> RecordFault {
     }
 }
 
-/// A record that is refused: how many come before it, and why.
+/// A record that is refused: how many come before it, the header row among them, and why.
 #[derive(Clone, Copy)]
 pub struct RowRefusal {
     pub count: u64,

@@ -1,12 +1,12 @@
 //! The records of a CSV text as lines of an input text.
 
-ghost use Rattle.std.specs.Prelude.{◌≡◌, ◌++◌, true, IfOk, OnOk};
+ghost use Rattle.std.specs.Prelude.{◌≡◌, ◌++◌, IfOk, OnOk, map, true};
 ghost use Rattle.csv_cells.specs.Texts.{Grows, texts_of};
 ghost use Rattle.tables.specs.Tables.{AreEncoded, epoch_of, head_text};
 ghost use Rattle.csv_cells.specs.Encoded.{line_text};
 
+use crate::header::under_header;
 use crate::refusal::{Fault, RecordFault, RowRefusal, fault_of_row};
-use csv::ReaderBuilder;
 use csv_cells::{Column, Dictionary, append_line, read_row};
 use schema::Epochs;
 use std::alloc::{AllocError, Global};
@@ -90,33 +90,38 @@ fn append_row(
     append_line(out, target.name, numbers)
 }
 
-/// The lines of the records of a CSV text with no header row. A refusal names the first record that has no numbers, or comes too late.
+/// Lack of memory after that many records.
+fn no_memory(count: u64) -> RowRefusal {
+    let fault = RecordFault::NoMemory;
+    RowRefusal { count, fault }
+}
+
+/// The lines of the records of a CSV text under its header row, whose cells are to be these names. A refusal names the first record, from the header row
+/// on, that has other cells than these, has no numbers, or comes too late.
 pub fn encode_rows(
     alloc: Global,
+    names: &[Vec<u8>],
     columns: &[Column],
     target: Target<'_>,
     dictionary: &mut Dictionary,
     text: &[u8],
 ) -> Result<Vec<u8>, RowRefusal>
-    ensures encoded { IfOk result (λ out. AreEncoded columns.now target.entry text.now (texts_of dictionary.new) out.items) }
+    ensures encoded { IfOk result (λ out. AreEncoded (map (λ v. v.items) names.now) columns.now target.entry text.now (texts_of dictionary.new) out.items) }
     ensures grows { OnOk result (Grows (texts_of dictionary.old) (texts_of dictionary.new)) }
 {
-    let reader = ReaderBuilder::new()
-        .has_headers(false)
-        .flexible(true)
-        .from_reader(alloc, text);
+    let reader = match under_header(alloc, text, names) {
+        Ok(reader) => reader,
+        Err(fault) => return Err(RowRefusal { count: 0, fault }),
+    };
     let mut out = Vec::new(alloc);
     let mut numbers = Vec::new(alloc);
     let mut scratch = Vec::new(alloc);
     let mut last = None;
-    let mut count = 0u64;
+    let mut count = 1u64;
     for row in reader.into_byte_records() {
         let row = match row {
             Ok(row) => row,
-            Err(_) => {
-                let fault = RecordFault::NoMemory;
-                return Err(RowRefusal { count, fault });
-            }
+            Err(_) => return Err(no_memory(count)),
         };
         match read_row(alloc, columns, dictionary, &row, &mut numbers, &mut scratch) {
             Ok(()) => {}
@@ -131,8 +136,7 @@ pub fn encode_rows(
             return Err(RowRefusal { count, fault });
         }
         if append_row(&mut out, target, last, numbers.as_slice()).is_err() {
-            let fault = RecordFault::NoMemory;
-            return Err(RowRefusal { count, fault });
+            return Err(no_memory(count));
         }
         last = epoch;
         count = count.saturating_add(1);

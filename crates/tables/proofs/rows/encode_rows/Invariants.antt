@@ -1,4 +1,4 @@
-use Rattle.std.proofs.Common.{◌≡◌, ◌<◌, ℕ, ℤ, List, None, Some}
+use Rattle.std.proofs.Common.{◌≡◌, ◌<◌, ℕ, ℤ, List, ◌∷◌, None, Some, map}
 use Rattle.csv.specs.Reading.{Reached, Ready, default_config, source_of, strip_bom}
 use Rattle.csv.specs.declared.parser.State.TheVariants as st
 use Rattle.csv.specs.declared.reader.Trim.TheVariants as trim
@@ -17,7 +17,7 @@ invariant-loop-row l = record {
   rest : List ℕ;
   source : source_of (λ s. Some s.now) l.row-iterator.rdr ≡ Some rest;
   rows : List (List (List ℕ));
-  reached : Reached default_config st.StartRecord (strip_bom l.fn.text) rows l.row-iterator.rdr.state rest;
+  reached : Reached default_config st.StartRecord (strip_bom l.fn.text) (map (λ v. v.items) l.names ∷ rows) l.row-iterator.rdr.state rest;
   all : List (List ℤ);
   spelled : SpellsAll l.columns (texts_of l.dictionary) rows all;
   grown : Grows (texts_of l.fn.dictionary) (texts_of l.dictionary);

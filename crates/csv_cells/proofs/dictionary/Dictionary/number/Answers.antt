@@ -1,7 +1,7 @@
 use Rattle.std.proofs.Common.{◌≡◌, Some, option_map, sym, ◌∙◌, ap}
 use Rattle.std.proofs.lemmas.Option.{slice_get-map}
 use Rattle.std.proofs.lemmas.Slice.Eq.{bytes_eq-Decides}
-use Rattle.csv_cells.proofs.Rows.{found-number, grown}
+use Rattle.csv_cells.proofs.Rows.{found-number, grown, one-added}
 use Rattle.csv_cells.proofs.dictionary.Dictionary.number.Goals as goal
 
 pub returns-clause-found : goal.returns-clause-found
@@ -13,3 +13,6 @@ returns-clause-found c =
 
 pub returns-clause-grows : goal.returns-clause-grows
 returns-clause-grows c = grown _ (λ v. v.items) c.args.self.now.texts.keys c.insert_full.new.self.keys c.in_ok-kept.kept c.in_ok-place.ensures.keys
+
+pub returns-clause-one : goal.returns-clause-one
+returns-clause-one c = one-added _ (λ v. v.items) c.args.self.now.texts.keys c.insert_full.new.self.keys c.in_ok-kept.kept c.args.text.now c.in_ok-kept.ensures.items c.in_ok-place.ensures.keys
