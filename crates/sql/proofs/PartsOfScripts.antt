@@ -33,16 +33,16 @@ whole_script p k l m n rs i e t r =
 -- the texts of the parts make the text of the script
 pub whole_text : {A : Type 0} (p : declared_program.Program A) (a : Asked) (s : declared_script.Script A) (ws wanted t1 t2 t3 t4 : List ℕ) → shown_script s ≡ script_of (plain_program (program_tree p)) →
     AreWidths (map plain_input p.inputs.items) ws (made_of s.made.items) → wanted ≡ asked_tables a.output (map shown_table s.results.items) (plain_outputs p.outputs.items) →
-    t1 ≡ head_text a.form (map plain_input p.inputs.items) →
-    t2 ≡ t1 ++ tables_text a.form (map plain_input p.inputs.items) (width_in (map plain_input p.inputs.items) ws) wanted (made_of s.made.items) →
-    t3 ≡ t2 ++ results_text (dialect_of a.form) (map plain_input p.inputs.items) (width_in (map plain_input p.inputs.items) ws) a.output (map shown_table s.results.items) (plain_outputs p.outputs.items) →
+    t1 ≡ head_text a.form a.epochs (map plain_input p.inputs.items) →
+    t2 ≡ t1 ++ tables_text a.form a.epochs (map plain_input p.inputs.items) (width_in (map plain_input p.inputs.items) ws) wanted (made_of s.made.items) →
+    t3 ≡ t2 ++ results_text (dialect_of a.form) a.epochs (map plain_input p.inputs.items) (width_in (map plain_input p.inputs.items) ws) a.output (map shown_table s.results.items) (plain_outputs p.outputs.items) →
     t4 ≡ t3 ++ end_text (dialect_of a.form) → t4 ≡ script_text a (plain_program (program_tree p))
 whole_text p a s ws wanted t1 t2 t3 t4 e w v h1 h2 h3 h4 =
     let inputs = map plain_input p.inputs.items in
     let outputs = plain_outputs p.outputs.items in
     let end : List ℕ = end_text (dialect_of a.form) in
-    let body : Script → List ℕ → Widths → List ℕ = λ z ns f. tables_text a.form inputs f ns z.tables ++ results_text (dialect_of a.form) inputs f a.output z.results outputs in
-    four_texts [] t1 t2 t3 t4 (head_text a.form inputs) _ _ _ h1 h2 h3 h4
-    ∙ ap (λ x. head_text a.form inputs ++ x) (sym (append_assoc (tables_text a.form inputs (width_in inputs ws) wanted (made_of s.made.items)) (results_text (dialect_of a.form) inputs (width_in inputs ws) a.output (map shown_table s.results.items) outputs) end))
-    ∙ ap₂ (λ ns f. head_text a.form inputs ++ (body (shown_script s) ns f ++ end)) v w.1
-    ∙ ap (λ (z : Script). head_text a.form inputs ++ (body_text a (plain_program (program_tree p)) z ++ end)) e
+    let body : Script → List ℕ → Widths → List ℕ = λ z ns f. tables_text a.form a.epochs inputs f ns z.tables ++ results_text (dialect_of a.form) a.epochs inputs f a.output z.results outputs in
+    four_texts [] t1 t2 t3 t4 (head_text a.form a.epochs inputs) _ _ _ h1 h2 h3 h4
+    ∙ ap (λ x. head_text a.form a.epochs inputs ++ x) (sym (append_assoc (tables_text a.form a.epochs inputs (width_in inputs ws) wanted (made_of s.made.items)) (results_text (dialect_of a.form) a.epochs inputs (width_in inputs ws) a.output (map shown_table s.results.items) outputs) end))
+    ∙ ap₂ (λ ns f. head_text a.form a.epochs inputs ++ (body (shown_script s) ns f ++ end)) v w.1
+    ∙ ap (λ (z : Script). head_text a.form a.epochs inputs ++ (body_text a (plain_program (program_tree p)) z ++ end)) e

@@ -1,20 +1,22 @@
--- What is asked for: a script in a form, of all outputs or of the one with a name.
+-- What is asked for: a script in a form, of one epoch or of all, of all outputs or of the one with a name.
 use Rattle.std.specs.Prelude.{ℕ, Bool, true, false, cond, ◌||◌, List, [], ◌∷◌, ◌++◌, Option, Some, None, option_map}
 use Rattle.semantics.specs.Meaning.{same_name}
 use Rattle.semantics.specs.Query.{Name, Output}
 use Rattle.sql_meaning.specs.Script.{Table}
 use Rattle.sql_meaning.specs.Wanted.{number_of}
+use Rattle.sql.specs.declared.form.Epochs.{Epochs}
 use Rattle.sql.specs.declared.form.Form.{Form}
 use Rattle.sql.specs.declared.form.Request.{Request}
 
--- the form of the script, and the name of the output, if one is asked for
+-- the form of the script, of which epochs it is, and the name of the output, if one is asked for
 pub record Asked : Type 0 where
   pub form : Form
+  pub epochs : Epochs
   pub output : Option Name
 
 -- what a request asks for
 abbrev pub asked_of : Request → Asked
-asked_of r = record { form = r.form; output = option_map (λ s. s.now) r.output }
+asked_of r = record { form = r.form; epochs = r.epochs; output = option_map (λ s. s.now) r.output }
 
 -- the output of that name is asked for
 abbrev pub is_asked : Option Name → Name → Bool

@@ -1,5 +1,6 @@
 pub mod Shown
 pub mod Dialects
+pub mod Epochs
 pub mod Asked
 pub mod Text
 pub mod Limits

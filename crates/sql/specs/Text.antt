@@ -7,9 +7,11 @@ use Rattle.sql_meaning.specs.Translation.{script_of}
 use Rattle.sql_meaning.specs.Wanted.{is_in, reads}
 use Rattle.sql_meaning.specs.WellFormed.{Widths, widths}
 use Rattle.sql.specs.Asked.{Asked, is_asked, asked_tables}
+use Rattle.sql.specs.Epochs.{reads_text, declared_epoch, made_epoch, epoch_text, join_word, places}
 use Rattle.sql.specs.Dialects.{dialect_of, arithmetic_of, database_name, quote, begin_text, end_text, create_word, promise_text, wrap_open, wrap_close, sum_open, sum_close, operand_open, operand_close}
 use Rattle.sql.specs.declared.form.Dialect.{Dialect}
 use Rattle.sql.specs.declared.form.Dialect.TheVariants.{Postgres, Sqlite, Spark}
+use Rattle.sql.specs.declared.form.Epochs.{Epochs}
 use Rattle.sql.specs.declared.form.Form.{Form}
 
 -- ---- lists
@@ -152,33 +154,37 @@ pair_text p = codes "l." ++ (column_text p.left ++ (codes " = r." ++ column_text
 abbrev pub both_text : Dialect → List Input → (operator : List ℕ) → Table → Table → List ℕ
 both_text d inputs operator t u = codes "SELECT * FROM " ++ (table_text d inputs t ++ (operator ++ (codes " SELECT * FROM " ++ table_text d inputs u)))
 
--- the columns that rows are grouped by
-abbrev pub keys_text : List ℕ → List ℕ
-keys_text ks = joined (codes ", ") (map column_text ks)
+-- the columns that rows are grouped by, with the epoch
+abbrev pub keys_text : Epochs → List ℕ → List ℕ
+keys_text e ks = epoch_text e ++ joined (codes ", ") (map column_text ks)
 
 -- a join
-abbrev pub join_text : Dialect → List Input → Table → Table → List Pair → List ℕ
-join_text d inputs t u ps =
+abbrev pub join_text : Dialect → Epochs → List Input → Table → Table → List Pair → List ℕ
+join_text d e inputs t u ps =
     codes "SELECT * FROM " ++ (table_text d inputs t ++ (codes " AS l INNER JOIN " ++ (table_text d inputs u
-    ++ (codes " AS r ON " ++ joined (codes " AND ") (map pair_text ps)))))
+    ++ (join_word e ++ joined (codes " AND ") (map pair_text ps)))))
 
 -- a group
-abbrev pub group_text : Form → List Input → List ℕ → List Aggregate → Table → List ℕ
-group_text a inputs ks as' t =
-    codes "SELECT " ++ (keys_text ks ++ (continued (codes ", ") (map (aggregate_text a) as') ++ (codes " FROM " ++ (table_text (dialect_of a) inputs t
-    ++ (codes " GROUP BY " ++ keys_text ks)))))
+abbrev pub group_text : Form → Epochs → List Input → List ℕ → List Aggregate → Table → List ℕ
+group_text a e inputs ks as' t =
+    codes "SELECT " ++ (keys_text e ks ++ (continued (codes ", ") (map (aggregate_text a) as') ++ (codes " FROM " ++ (table_text (dialect_of a) inputs t
+    ++ (codes " GROUP BY " ++ keys_text e ks)))))
+
+-- a select
+abbrev pub select_text : Form → Epochs → List Input → List Expression → Table → List ℕ
+select_text a e inputs es t =
+    codes "SELECT " ++ (epoch_text e ++ (joined (codes ", ") (map (expression_text a) es) ++ (codes " FROM " ++ table_text (dialect_of a) inputs t)))
 
 -- a query
-abbrev pub query_text : Form → List Input → Query → List ℕ
-query_text a inputs (Query.select es t) =
-    codes "SELECT " ++ (joined (codes ", ") (map (expression_text a) es) ++ (codes " FROM " ++ table_text (dialect_of a) inputs t))
-query_text a inputs (Query.select_where t c) = codes "SELECT * FROM " ++ (table_text (dialect_of a) inputs t ++ (codes " WHERE " ++ search_text a c))
-query_text a inputs (Query.select_join t u ps) = join_text (dialect_of a) inputs t u ps
-query_text a inputs (Query.select_group ks as' t) = group_text a inputs ks as' t
-query_text a inputs (Query.select_distinct t) = codes "SELECT DISTINCT * FROM " ++ table_text (dialect_of a) inputs t
-query_text a inputs (Query.union_all t u) = both_text (dialect_of a) inputs (codes " UNION ALL") t u
-query_text a inputs (Query.except t u) = both_text (dialect_of a) inputs (codes " EXCEPT") t u
-query_text a inputs (Query.intersect t u) = both_text (dialect_of a) inputs (codes " INTERSECT") t u
+abbrev pub query_text : Form → Epochs → List Input → Query → List ℕ
+query_text a e inputs (Query.select es t) = select_text a e inputs es t
+query_text a e inputs (Query.select_where t c) = codes "SELECT * FROM " ++ (table_text (dialect_of a) inputs t ++ (codes " WHERE " ++ search_text a c))
+query_text a e inputs (Query.select_join t u ps) = join_text (dialect_of a) e inputs t u ps
+query_text a e inputs (Query.select_group ks as' t) = group_text a e inputs ks as' t
+query_text a e inputs (Query.select_distinct t) = codes "SELECT DISTINCT * FROM " ++ table_text (dialect_of a) inputs t
+query_text a e inputs (Query.union_all t u) = both_text (dialect_of a) inputs (codes " UNION ALL") t u
+query_text a e inputs (Query.except t u) = both_text (dialect_of a) inputs (codes " EXCEPT") t u
+query_text a e inputs (Query.intersect t u) = both_text (dialect_of a) inputs (codes " INTERSECT") t u
 
 -- ---- scripts
 
@@ -191,6 +197,10 @@ abbrev pub made_column_text : Dialect → ℕ → List ℕ
 made_column_text Postgres c = column_text c
 made_column_text Sqlite c = column_text c ++ (codes " CHECK (typeof(" ++ (column_text c ++ codes ") = 'integer')"))
 made_column_text Spark c = column_text c
+
+-- the columns of a table that is made, so many
+abbrev pub made_columns_text : Dialect → Epochs → (width : ℕ) → List ℕ
+made_columns_text d e width = made_epoch e d ++ numbered (made_column_text d) width
 
 -- between the columns of the table number n and its query
 abbrev pub fill_text : Dialect → (n : ℕ) → List ℕ
@@ -205,60 +215,65 @@ keep_text Sqlite n = codes ";\n"
 keep_text Spark n = codes ";\nCACHE TABLE " ++ (quoted Spark (decimal n) ++ codes ";\n")
 
 -- what makes the table number n, of so many columns
-abbrev pub create_text : Form → List Input → (n width : ℕ) → Query → List ℕ
-create_text a inputs n width q =
-    create_word (dialect_of a) ++ (quoted (dialect_of a) (decimal n) ++ (codes " (" ++ (numbered (made_column_text (dialect_of a)) width
-    ++ (fill_text (dialect_of a) n ++ (query_text a inputs q ++ keep_text (dialect_of a) n)))))
+abbrev pub create_text : Form → Epochs → List Input → (n width : ℕ) → Query → List ℕ
+create_text a e inputs n width q =
+    create_word (dialect_of a) ++ (quoted (dialect_of a) (decimal n) ++ (codes " (" ++ (made_columns_text (dialect_of a) e width
+    ++ (fill_text (dialect_of a) n ++ (query_text a e inputs q ++ keep_text (dialect_of a) n)))))
 
 -- what makes the tables that are wanted, or that one reads that is made, in order; the latest is first in the list
-abbrev pub tables_text : Form → List Input → Widths → (wanted : List ℕ) → List Query → List ℕ
-tables_text a inputs width wanted [] = []
-tables_text a inputs width wanted (q ∷ earlier) =
+abbrev pub tables_text : Form → Epochs → List Input → Widths → (wanted : List ℕ) → List Query → List ℕ
+tables_text a e inputs width wanted [] = []
+tables_text a e inputs width wanted (q ∷ earlier) =
     cond (is_in (length earlier) wanted)
-    (tables_text a inputs width (wanted ++ reads q) earlier ++ create_text a inputs (length earlier) (width (Table.made (length earlier))) q)
-    (tables_text a inputs width wanted earlier)
+    (tables_text a e inputs width (wanted ++ reads q) earlier ++ create_text a e inputs (length earlier) (width (Table.made (length earlier))) q)
+    (tables_text a e inputs width wanted earlier)
 
 -- a place in ORDER BY: 1, 2, ..
 abbrev pub place_text : ℕ → List ℕ
 place_text n = decimal (n + 1)
 
 -- the rows of an output's table of so many columns, in order
-abbrev pub result_text : Dialect → List Input → (width : ℕ) → Table → Name → List ℕ
-result_text d inputs width t x =
-    codes "-- " ++ (x ++ (codes "\nSELECT * FROM " ++ (table_text d inputs t ++ (codes " ORDER BY " ++ (numbered place_text width ++ codes ";\n")))))
+abbrev pub result_text : Dialect → Epochs → List Input → (width : ℕ) → Table → Name → List ℕ
+result_text d e inputs width t x =
+    codes "-- "
+    ++ (x ++ (codes "\nSELECT * FROM " ++ (table_text d inputs t ++ (codes " ORDER BY " ++ (numbered place_text (places e width) ++ codes ";\n")))))
 
 -- the rows of each output that is asked for, in order
-abbrev pub results_text : Dialect → List Input → Widths → Option Name → List Table → List Output → List ℕ
-results_text d inputs width y [] os = []
-results_text d inputs width y (t ∷ ts) [] = []
-results_text d inputs width y (t ∷ ts) (o ∷ os) =
-    cond (is_asked y o.name) (result_text d inputs (width t) t o.name) [] ++ results_text d inputs width y ts os
+abbrev pub results_text : Dialect → Epochs → List Input → Widths → Option Name → List Table → List Output → List ℕ
+results_text d e inputs width y [] os = []
+results_text d e inputs width y (t ∷ ts) [] = []
+results_text d e inputs width y (t ∷ ts) (o ∷ os) =
+    cond (is_asked y o.name) (result_text d e inputs (width t) t o.name) [] ++ results_text d e inputs width y ts os
 
 -- a column of a given table
 abbrev pub declared_text : ℕ → List ℕ
 declared_text c = column_text c ++ codes " BIGINT NOT NULL"
 
+-- the columns of a given table, so many
+abbrev pub declared_columns_text : Epochs → (width : ℕ) → List ℕ
+declared_columns_text e width = declared_epoch e ++ numbered declared_text width
+
 -- a given table as it should be, in a comment
-abbrev pub declaration_text : Dialect → Input → List ℕ
-declaration_text d a = codes "--   CREATE TABLE " ++ (quoted d a.name ++ (codes " (" ++ (numbered declared_text a.arity ++ codes ");\n")))
+abbrev pub declaration_text : Dialect → Epochs → Input → List ℕ
+declaration_text d e a = codes "--   CREATE TABLE " ++ (quoted d a.name ++ (codes " (" ++ (declared_columns_text e a.arity ++ codes ");\n")))
 
 -- the given tables
-abbrev pub inputs_text : Dialect → List Input → List ℕ
-inputs_text d [] = []
-inputs_text d (a ∷ as') = declaration_text d a ++ inputs_text d as'
+abbrev pub inputs_text : Dialect → Epochs → List Input → List ℕ
+inputs_text d e [] = []
+inputs_text d e (a ∷ as') = declaration_text d e a ++ inputs_text d e as'
 
 -- what stands before the tables
-abbrev pub head_text : Form → List Input → List ℕ
-head_text a inputs =
-    codes "-- A query as SQL, for " ++ (database_name (dialect_of a) ++ (codes ". It reads these tables:\n" ++ (inputs_text (dialect_of a) inputs
+abbrev pub head_text : Form → Epochs → List Input → List ℕ
+head_text a e inputs =
+    codes "-- A query as SQL, for " ++ (database_name (dialect_of a) ++ (reads_text e ++ (inputs_text (dialect_of a) e inputs
     ++ (promise_text (arithmetic_of a) ++ begin_text (dialect_of a)))))
 
 -- what makes a script's tables, and its results
 abbrev pub body_text : Asked → Program → Script → List ℕ
 body_text a p s =
-    tables_text a.form p.inputs (widths_of p.inputs s.tables) (asked_tables a.output s.results p.outputs) s.tables
-    ++ results_text (dialect_of a.form) p.inputs (widths_of p.inputs s.tables) a.output s.results p.outputs
+    tables_text a.form a.epochs p.inputs (widths_of p.inputs s.tables) (asked_tables a.output s.results p.outputs) s.tables
+    ++ results_text (dialect_of a.form) a.epochs p.inputs (widths_of p.inputs s.tables) a.output s.results p.outputs
 
 -- a program's script, as it is asked for
 abbrev pub script_text : Asked → Program → List ℕ
-script_text a p = head_text a.form p.inputs ++ (body_text a p (script_of p) ++ end_text (dialect_of a.form))
+script_text a p = head_text a.form a.epochs p.inputs ++ (body_text a p (script_of p) ++ end_text (dialect_of a.form))

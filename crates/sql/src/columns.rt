@@ -3,10 +3,12 @@
 ghost use Rattle.std.specs.Prelude.{◌≡◌, ◌++◌, codes, map, OnOk};
 ghost use Rattle.expr_tree.specs.Plain.{plain_agg, plain_pair};
 ghost use Rattle.sql_meaning.specs.Translation.{aggregate_of};
-ghost use Rattle.sql.specs.Text.{aggregate_text, column_text, comma_text, continued, declared_text, joined, keys_text, made_column_text, numbered, pair_text, place_text, sum_text};
+ghost use Rattle.sql.specs.Epochs.{places};
+ghost use Rattle.sql.specs.Text.{aggregate_text, column_text, comma_text, continued, declared_columns_text, declared_text, joined, keys_text, made_column_text, made_columns_text, numbered, pair_text, place_text, sum_text};
 
-use crate::form::{Dialect, Form};
+use crate::form::{Dialect, Epochs, Form};
 use crate::push::{push, push_column, push_number};
+use crate::widths::places;
 use expr_tree::{Agg, Column, Pair};
 use record_core::NoMemory;
 
@@ -25,8 +27,8 @@ fn push_more_keys(text: &mut Vec<u8>, keys: &[Column]) -> Result<(), NoMemory>
 }
 
 /// Appends columns, with a comma between each two.
-pub fn push_keys(text: &mut Vec<u8>, keys: &[Column]) -> Result<(), NoMemory>
-    ensures { OnOk result (text.new.items ≡ text.old.items ++ keys_text (map (λ k. k.index) keys.now)) }
+fn push_joined_keys(text: &mut Vec<u8>, keys: &[Column]) -> Result<(), NoMemory>
+    ensures { OnOk result (text.new.items ≡ text.old.items ++ joined (codes ", ") (map column_text (map (λ k. k.index) keys.now))) }
 {
     match keys {
         [] => Ok(()),
@@ -35,6 +37,14 @@ pub fn push_keys(text: &mut Vec<u8>, keys: &[Column]) -> Result<(), NoMemory>
             push_more_keys(text, rest)
         }
     }
+}
+
+/// Appends the columns that rows are grouped by.
+pub fn push_keys(text: &mut Vec<u8>, epochs: Epochs, keys: &[Column]) -> Result<(), NoMemory>
+    ensures { OnOk result (text.new.items ≡ text.old.items ++ keys_text epochs (map (λ k. k.index) keys.now)) }
+{
+    push(text, epochs.epoch_text())?;
+    push_joined_keys(text, keys)
 }
 
 /// Appends a pair of columns.
@@ -144,7 +154,7 @@ fn push_made_column(text: &mut Vec<u8>, dialect: Dialect, column: u64) -> Result
 }
 
 /// Appends the first columns as a table that is made has them.
-pub fn push_made_columns(text: &mut Vec<u8>, dialect: Dialect, count: u64) -> Result<(), NoMemory>
+fn push_numbered_made(text: &mut Vec<u8>, dialect: Dialect, count: u64) -> Result<(), NoMemory>
     ensures { OnOk result (text.new.items ≡ text.old.items ++ numbered (made_column_text dialect) count) }
 {
     for i in 0..count {
@@ -154,8 +164,21 @@ pub fn push_made_columns(text: &mut Vec<u8>, dialect: Dialect, count: u64) -> Re
     Ok(())
 }
 
+/// Appends the columns of a table that is made, with the epoch.
+pub fn push_made_columns(
+    text: &mut Vec<u8>,
+    dialect: Dialect,
+    epochs: Epochs,
+    count: u64,
+) -> Result<(), NoMemory>
+    ensures { OnOk result (text.new.items ≡ text.old.items ++ made_columns_text dialect epochs count) }
+{
+    push(text, epochs.made_epoch(dialect))?;
+    push_numbered_made(text, dialect, count)
+}
+
 /// Appends the first columns as a table declares them.
-pub fn push_declared(text: &mut Vec<u8>, count: u64) -> Result<(), NoMemory>
+fn push_numbered_declared(text: &mut Vec<u8>, count: u64) -> Result<(), NoMemory>
     ensures { OnOk result (text.new.items ≡ text.old.items ++ numbered declared_text count) }
 {
     for i in 0..count {
@@ -166,8 +189,24 @@ pub fn push_declared(text: &mut Vec<u8>, count: u64) -> Result<(), NoMemory>
     Ok(())
 }
 
-/// Appends 1, 2 and so on, as many numbers as there are columns.
-pub fn push_places(text: &mut Vec<u8>, count: u64) -> Result<(), NoMemory>
+/// Appends the columns of a given table, with the epoch.
+pub fn push_declared(text: &mut Vec<u8>, epochs: Epochs, count: u64) -> Result<(), NoMemory>
+    ensures { OnOk result (text.new.items ≡ text.old.items ++ declared_columns_text epochs count) }
+{
+    push(text, epochs.declared_epoch())?;
+    push_numbered_declared(text, count)
+}
+
+/// Appends 1, 2 and so on, for the columns of a table and the epoch.
+pub fn push_places(text: &mut Vec<u8>, epochs: Epochs, width: u64) -> Result<(), NoMemory>
+    ensures { OnOk result (text.new.items ≡ text.old.items ++ numbered place_text (places epochs width)) }
+{
+    let count = places(epochs, width)?;
+    push_numbered_places(text, count)
+}
+
+/// Appends 1, 2 and so on, so many numbers.
+fn push_numbered_places(text: &mut Vec<u8>, count: u64) -> Result<(), NoMemory>
     ensures { OnOk result (text.new.items ≡ text.old.items ++ numbered place_text count) }
 {
     for i in 0..count {

@@ -1,6 +1,7 @@
-//! How a script is written: for which database, and how it computes.
+//! How a script is written: for which database, how it computes, and of which epochs.
 
 ghost use Rattle.std.specs.Prelude.{◌≡◌};
+ghost use Rattle.sql.specs.Epochs.{declared_epoch, epoch_text, join_word, made_epoch, reads_text};
 ghost use Rattle.sql.specs.Dialects.{arithmetic_of, begin_text, create_word, database_name, dialect_of, end_text, operand_close, operand_open, promise_text, quote, sum_close, sum_open, wrap_close, wrap_open};
 
 /// The database that a script is for.
@@ -28,10 +29,20 @@ pub enum Form {
     Spark(Arithmetic),
 }
 
-/// The script that is asked for: its form, and the name of the only output that it is to have, or all outputs.
+/// Of which epochs a script is.
+#[derive(Clone, Copy, Debug, PartialEq, Eq)]
+pub enum Epochs {
+    /// Of one: the tables have its rows alone.
+    One,
+    /// Of all at once: the first column of each table is the epoch.
+    Every,
+}
+
+/// The script that is asked for: its form, of which epochs it is, and the name of the only output that it is to have, or all outputs.
 #[derive(Clone, Copy, Debug)]
 pub struct Request<'a> {
     pub form: Form,
+    pub epochs: Epochs,
     pub output: Option<&'a [u8]>,
 }
 
@@ -141,6 +152,62 @@ impl Arithmetic {
             Arithmetic::Plain => b") AS BIGINT)",
             Arithmetic::Wrapped =>
                 b") + 9223372036854775808, 18446744073709551616) + 18446744073709551616, 18446744073709551616) - 9223372036854775808 AS BIGINT)",
+        }
+    }
+}
+
+impl Epochs {
+    /// What stands between the database's name and the given tables.
+    pub fn reads_text(self) -> &'static [u8]
+        ensures { result.now ≡ reads_text self }
+    {
+        match self {
+            Epochs::One => b". It reads these tables:\n",
+            Epochs::Every =>
+                b". The first column of each table is the epoch. It reads these tables:\n",
+        }
+    }
+
+    /// What stands before the columns of a given table.
+    pub fn declared_epoch(self) -> &'static [u8]
+        ensures { result.now ≡ declared_epoch self }
+    {
+        match self {
+            Epochs::One => b"",
+            Epochs::Every => b"epoch BIGINT NOT NULL, ",
+        }
+    }
+
+    /// What stands before the columns of a table that is made.
+    pub fn made_epoch(self, dialect: Dialect) -> &'static [u8]
+        ensures { result.now ≡ made_epoch self dialect }
+    {
+        match self {
+            Epochs::One => b"",
+            Epochs::Every => match dialect {
+                Dialect::Postgres | Dialect::Spark => b"epoch, ",
+                Dialect::Sqlite => b"epoch CHECK (typeof(epoch) = 'integer'), ",
+            },
+        }
+    }
+
+    /// What stands before the columns that a query names.
+    pub fn epoch_text(self) -> &'static [u8]
+        ensures { result.now ≡ epoch_text self }
+    {
+        match self {
+            Epochs::One => b"",
+            Epochs::Every => b"epoch, ",
+        }
+    }
+
+    /// What stands between the second table of a join and the pairs.
+    pub fn join_word(self) -> &'static [u8]
+        ensures { result.now ≡ join_word self }
+    {
+        match self {
+            Epochs::One => b" AS r ON ",
+            Epochs::Every => b" AS r USING (epoch) WHERE ",
         }
     }
 }

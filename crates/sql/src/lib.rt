@@ -26,6 +26,6 @@ mod whole;
 mod widths;
 
 pub use counting::{MAX_TABLES, TOO_MANY_TABLES};
-pub use form::{Arithmetic, Dialect, Form, Request};
+pub use form::{Arithmetic, Dialect, Epochs, Form, Request};
 pub use statement::sql_text;
 pub use wanted::NO_SUCH_OUTPUT;

@@ -8,11 +8,11 @@ ghost use Rattle.sql_meaning.specs.Script as script;
 ghost use Rattle.sql_meaning.specs.Translation.{aggregate_of, expression, search};
 ghost use Rattle.sql.specs.Shown.{shown_query, shown_table};
 ghost use Rattle.sql.specs.Signs.{set_operator_text};
-ghost use Rattle.sql.specs.Text.{both_text, group_text, join_text, query_text, quoted, table_text};
+ghost use Rattle.sql.specs.Text.{both_text, group_text, join_text, query_text, quoted, select_text, table_text};
 
 use crate::columns::{push_aggregates, push_keys, push_pairs};
 use crate::condition::push_cond;
-use crate::form::{Dialect, Form};
+use crate::form::{Dialect, Epochs, Form};
 use crate::push::{push, push_number};
 use crate::scalar::push_scalars;
 use crate::table::{Query, Table};
@@ -73,14 +73,16 @@ fn push_set_operator(text: &mut Vec<u8>, operator: SetOperator) -> Result<(), No
 fn push_select<A: Allocator>(
     text: &mut Vec<u8>,
     form: Form,
+    epochs: Epochs,
     inputs: &[Input],
     scalars: &[Scalar<A>],
     from: Table,
 ) -> Result<(), NoMemory>
-    ensures { OnOk result (text.new.items ≡ text.old.items ++ query_text form (map plain_input inputs.now)
-        (script.Query.select (map expression (plain_scalars scalars.now)) (shown_table from))) }
+    ensures { OnOk result (text.new.items ≡ text.old.items ++ select_text form epochs (map plain_input inputs.now)
+        (map expression (plain_scalars scalars.now)) (shown_table from)) }
 {
     push(text, b"SELECT ")?;
+    push(text, epochs.epoch_text())?;
     push_scalars(text, form, scalars)?;
     push(text, b" FROM ")?;
     push_table(text, form.dialect(), inputs, from)
@@ -90,11 +92,12 @@ fn push_select<A: Allocator>(
 fn push_where<A: Allocator>(
     text: &mut Vec<u8>,
     form: Form,
+    epochs: Epochs,
     inputs: &[Input],
     from: Table,
     condition: &Cond<A>,
 ) -> Result<(), NoMemory>
-    ensures { OnOk result (text.new.items ≡ text.old.items ++ query_text form (map plain_input inputs.now)
+    ensures { OnOk result (text.new.items ≡ text.old.items ++ query_text form epochs (map plain_input inputs.now)
         (script.Query.select_where (shown_table from) (search (plain_cond (cond_tree condition.now))))) }
 {
     push(text, b"SELECT * FROM ")?;
@@ -107,18 +110,19 @@ fn push_where<A: Allocator>(
 fn push_join(
     text: &mut Vec<u8>,
     dialect: Dialect,
+    epochs: Epochs,
     inputs: &[Input],
     left: Table,
     right: Table,
     pairs: &[Pair],
 ) -> Result<(), NoMemory>
-    ensures { OnOk result (text.new.items ≡ text.old.items ++ join_text dialect (map plain_input inputs.now) (shown_table left) (shown_table right) (map plain_pair pairs.now)) }
+    ensures { OnOk result (text.new.items ≡ text.old.items ++ join_text dialect epochs (map plain_input inputs.now) (shown_table left) (shown_table right) (map plain_pair pairs.now)) }
 {
     push(text, b"SELECT * FROM ")?;
     push_table(text, dialect, inputs, left)?;
     push(text, b" AS l INNER JOIN ")?;
     push_table(text, dialect, inputs, right)?;
-    push(text, b" AS r ON ")?;
+    push(text, epochs.join_word())?;
     push_pairs(text, pairs)
 }
 
@@ -126,21 +130,22 @@ fn push_join(
 fn push_group(
     text: &mut Vec<u8>,
     form: Form,
+    epochs: Epochs,
     inputs: &[Input],
     keys: &[Column],
     aggregates: &[Agg],
     from: Table,
 ) -> Result<(), NoMemory>
-    ensures { OnOk result (text.new.items ≡ text.old.items ++ group_text form (map plain_input inputs.now)
+    ensures { OnOk result (text.new.items ≡ text.old.items ++ group_text form epochs (map plain_input inputs.now)
         (map (λ k. k.index) keys.now) (map aggregate_of (map plain_agg aggregates.now)) (shown_table from)) }
 {
     push(text, b"SELECT ")?;
-    push_keys(text, keys)?;
+    push_keys(text, epochs, keys)?;
     push_aggregates(text, form, aggregates)?;
     push(text, b" FROM ")?;
     push_table(text, form.dialect(), inputs, from)?;
     push(text, b" GROUP BY ")?;
-    push_keys(text, keys)
+    push_keys(text, epochs, keys)
 }
 
 /// Appends all rows of two tables under an operator of sets.
@@ -165,24 +170,28 @@ fn push_both(
 pub fn push_query<A: Allocator>(
     text: &mut Vec<u8>,
     form: Form,
+    epochs: Epochs,
     inputs: &[Input],
     query: &Query<'_, A>,
 ) -> Result<(), NoMemory>
-    ensures { OnOk result (text.new.items ≡ text.old.items ++ query_text form (map plain_input inputs.now) (shown_query query.now)) }
+    ensures { OnOk result (text.new.items ≡ text.old.items ++ query_text form epochs (map plain_input inputs.now) (shown_query query.now)) }
 {
     match query {
-        Query::Select(scalars, from) => push_select(text, form, inputs, scalars, *from),
-        Query::Where(from, condition) => push_where(text, form, inputs, *from, condition),
+        Query::Select(scalars, from) => { push_select(text, form, epochs, inputs, scalars, *from) }
+        Query::Where(from, condition) => {
+            push_where(text, form, epochs, inputs, *from, condition)
+        }
         Query::Join(left, right, pairs) => push_join(
             text,
             form.dialect(),
+            epochs,
             inputs,
             *left,
             *right,
             pairs,
         ),
         Query::Group(keys, aggregates, from) => {
-            push_group(text, form, inputs, keys, aggregates, *from)
+            push_group(text, form, epochs, inputs, keys, aggregates, *from)
         }
         Query::Distinct(from) => {
             push(text, b"SELECT DISTINCT * FROM ")?;

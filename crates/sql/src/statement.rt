@@ -1,10 +1,11 @@
 //! The text of a script.
 
-ghost use Rattle.std.specs.Prelude.{◌≡◌, ◌≤◌, ◌++◌, length, map, option_map, take, true, IfErr, IfOk, OnOk};
+ghost use Rattle.std.specs.Prelude.{◌≡◌, ◌≤◌, ◌++◌, [], cond, length, map, take, true, IfErr, IfOk, OnOk};
 ghost use Rattle.expr_tree.specs.Plain.{plain_input, plain_program};
 ghost use Rattle.expr_tree.specs.PlainLists.{plain_outputs};
 ghost use Rattle.expr_tree.specs.Views.{program_tree};
-ghost use Rattle.sql.specs.Asked.{asked_of, has_output};
+ghost use Rattle.sql.specs.Asked.{asked_of, has_output, is_asked};
+ghost use Rattle.sql.specs.Dialects.{dialect_of};
 ghost use Rattle.sql.specs.Limits.{IsSqlRefusal};
 ghost use Rattle.sql.specs.Shown.{made_of, shown_query, shown_table};
 ghost use Rattle.sql.specs.Text.{create_text, declaration_text, fill_text, head_text, inputs_text, keep_text, quoted, result_text, results_text, script_text, tables_text};
@@ -12,7 +13,7 @@ ghost use Rattle.sql.specs.Widths.{AreWidths, width_in};
 
 use crate::columns::{push_declared, push_made_columns, push_places};
 use crate::counting::{TOO_MANY_TABLES, count_program};
-use crate::form::{Dialect, Form, Request};
+use crate::form::{Dialect, Epochs, Form, Request};
 use crate::push::push;
 use crate::query::{push_made, push_query, push_table};
 use crate::table::{Query, Table};
@@ -56,20 +57,21 @@ fn push_keep(text: &mut Vec<u8>, dialect: Dialect, number: u64) -> Result<(), No
 fn push_create<A: Allocator>(
     text: &mut Vec<u8>,
     form: Form,
+    epochs: Epochs,
     inputs: &[Input],
     number: u64,
     width: u64,
     query: &Query<'_, A>,
 ) -> Result<(), NoMemory>
-    ensures { OnOk result (text.new.items ≡ text.old.items ++ create_text form (map plain_input inputs.now) number width (shown_query query.now)) }
+    ensures { OnOk result (text.new.items ≡ text.old.items ++ create_text form epochs (map plain_input inputs.now) number width (shown_query query.now)) }
 {
     let dialect = form.dialect();
     push(text, dialect.create_word())?;
     push_made(text, dialect, number)?;
     push(text, b" (")?;
-    push_made_columns(text, dialect, width)?;
+    push_made_columns(text, dialect, epochs, width)?;
     push_fill(text, dialect, number)?;
-    push_query(text, form, inputs, query)?;
+    push_query(text, form, epochs, inputs, query)?;
     push_keep(text, dialect, number)
 }
 
@@ -92,7 +94,7 @@ fn table_widths<A: Allocator>(
 /// Appends what makes each of the first tables that is wanted, or that one reads that is made, in order.
 fn push_tables<A: Allocator>(
     text: &mut Vec<u8>,
-    form: Form,
+    request: Request<'_>,
     inputs: &[Input],
     made: &[Query<'_, A>],
     widths: &[u64],
@@ -100,65 +102,100 @@ fn push_tables<A: Allocator>(
     count: usize,
 ) -> Result<(), NoMemory>
     requires count { count ≤ length made.now }
-    ensures { OnOk result (text.new.items ≡ text.old.items ++ tables_text form (map plain_input inputs.now) (width_in (map plain_input inputs.now) widths.now) wanted.old.items (made_of (take count made.now))) }
+    ensures { OnOk result (text.new.items ≡ text.old.items ++ tables_text request.entry.form request.entry.epochs (map plain_input inputs.now)
+        (width_in (map plain_input inputs.now) widths.now) wanted.old.items (made_of (take count made.now))) }
 {
     if count == 0 {
         return Ok(());
     }
     let number = count - 1;
     if !is_in(number as u64, wanted) {
-        return push_tables(text, form, inputs, made, widths, wanted, number);
+        return push_tables(text, request, inputs, made, widths, wanted, number);
     }
     let query = &made[number];
     push_reads(wanted, query)?;
-    push_tables(text, form, inputs, made, widths, wanted, number)?;
+    push_tables(text, request, inputs, made, widths, wanted, number)?;
     let width = table_width(inputs, widths, Table::Made(number as u64));
-    push_create(text, form, inputs, number as u64, width, query)
+    push_create(
+        text,
+        request.form,
+        request.epochs,
+        inputs,
+        number as u64,
+        width,
+        query,
+    )
 }
 
 /// Appends what gives the rows of an output's table, in order.
 fn push_result(
     text: &mut Vec<u8>,
     dialect: Dialect,
+    epochs: Epochs,
     inputs: &[Input],
     width: u64,
     table: Table,
     name: &Name,
 ) -> Result<(), NoMemory>
-    ensures { OnOk result (text.new.items ≡ text.old.items ++ result_text dialect (map plain_input inputs.now) width (shown_table table) name.now) }
+    ensures { OnOk result (text.new.items ≡ text.old.items ++ result_text dialect epochs (map plain_input inputs.now) width (shown_table table) name.now) }
 {
     push(text, b"-- ")?;
     push(text, name.bytes())?;
     push(text, b"\nSELECT * FROM ")?;
     push_table(text, dialect, inputs, table)?;
     push(text, b" ORDER BY ")?;
-    push_places(text, width)?;
+    push_places(text, epochs, width)?;
     push(text, b";\n")
+}
+
+/// Appends what gives the rows of an output's table, in order, if the output is asked for.
+fn push_if_asked(
+    text: &mut Vec<u8>,
+    request: Request<'_>,
+    inputs: &[Input],
+    widths: &[u64],
+    table: Table,
+    name: &Name,
+) -> Result<(), NoMemory>
+    ensures { OnOk result (text.new.items ≡ text.old.items ++ cond (is_asked (asked_of request.entry).output name.now)
+        (result_text (dialect_of request.entry.form) request.entry.epochs (map plain_input inputs.now)
+        (width_in (map plain_input inputs.now) widths.now (shown_table table)) (shown_table table) name.now) []) }
+{
+    if !is_asked(request.output, name) {
+        return Ok(());
+    }
+    let width = table_width(inputs, widths, table);
+    push_result(
+        text,
+        request.form.dialect(),
+        request.epochs,
+        inputs,
+        width,
+        table,
+        name,
+    )
 }
 
 /// Appends what gives the rows of each output that is asked for, in order.
 fn push_results<A: Allocator>(
     text: &mut Vec<u8>,
-    dialect: Dialect,
+    request: Request<'_>,
     inputs: &[Input],
     widths: &[u64],
-    asked: Option<&[u8]>,
     results: &[Table],
     outputs: &[Output<A>],
 ) -> Result<(), NoMemory>
     ensures { OnOk result (text.new.items ≡ text.old.items
-        ++ results_text dialect (map plain_input inputs.now) (width_in (map plain_input inputs.now) widths.now) (option_map (λ s. s.now) asked.entry) (map shown_table results.now) (plain_outputs outputs.now)) }
+        ++ results_text (dialect_of request.entry.form) request.entry.epochs (map plain_input inputs.now) (width_in (map plain_input inputs.now) widths.now)
+        (asked_of request.entry).output (map shown_table results.now) (plain_outputs outputs.now)) }
 {
     match results {
         [] => Ok(()),
         [table, results @ ..] => match outputs {
             [] => Ok(()),
             [output, outputs @ ..] => {
-                if is_asked(asked, &output.name) {
-                    let width = table_width(inputs, widths, *table);
-                    push_result(text, dialect, inputs, width, *table, &output.name)?;
-                }
-                push_results(text, dialect, inputs, widths, asked, results, outputs)
+                push_if_asked(text, request, inputs, widths, *table, &output.name)?;
+                push_results(text, request, inputs, widths, results, outputs)
             }
         },
     }
@@ -174,38 +211,53 @@ fn push_named(text: &mut Vec<u8>, dialect: Dialect, name: &Name) -> Result<(), N
 }
 
 /// Appends a given table as it should be, in a comment.
-fn push_declaration(text: &mut Vec<u8>, dialect: Dialect, input: &Input) -> Result<(), NoMemory>
-    ensures { OnOk result (text.new.items ≡ text.old.items ++ declaration_text dialect (plain_input input.now)) }
+fn push_declaration(
+    text: &mut Vec<u8>,
+    dialect: Dialect,
+    epochs: Epochs,
+    input: &Input,
+) -> Result<(), NoMemory>
+    ensures { OnOk result (text.new.items ≡ text.old.items ++ declaration_text dialect epochs (plain_input input.now)) }
 {
     push(text, b"--   CREATE TABLE ")?;
     push_named(text, dialect, &input.name)?;
     push(text, b" (")?;
-    push_declared(text, input.arity)?;
+    push_declared(text, epochs, input.arity)?;
     push(text, b");\n")
 }
 
 /// Appends the given tables as they should be.
-fn push_inputs(text: &mut Vec<u8>, dialect: Dialect, inputs: &[Input]) -> Result<(), NoMemory>
-    ensures { OnOk result (text.new.items ≡ text.old.items ++ inputs_text dialect (map plain_input inputs.now)) }
+fn push_inputs(
+    text: &mut Vec<u8>,
+    dialect: Dialect,
+    epochs: Epochs,
+    inputs: &[Input],
+) -> Result<(), NoMemory>
+    ensures { OnOk result (text.new.items ≡ text.old.items ++ inputs_text dialect epochs (map plain_input inputs.now)) }
 {
     match inputs {
         [] => Ok(()),
         [input, rest @ ..] => {
-            push_declaration(text, dialect, input)?;
-            push_inputs(text, dialect, rest)
+            push_declaration(text, dialect, epochs, input)?;
+            push_inputs(text, dialect, epochs, rest)
         }
     }
 }
 
 /// Appends what stands before the tables.
-fn push_head(text: &mut Vec<u8>, form: Form, inputs: &[Input]) -> Result<(), NoMemory>
-    ensures { OnOk result (text.new.items ≡ text.old.items ++ head_text form (map plain_input inputs.now)) }
+fn push_head(
+    text: &mut Vec<u8>,
+    form: Form,
+    epochs: Epochs,
+    inputs: &[Input],
+) -> Result<(), NoMemory>
+    ensures { OnOk result (text.new.items ≡ text.old.items ++ head_text form epochs (map plain_input inputs.now)) }
 {
     let dialect = form.dialect();
     push(text, b"-- A query as SQL, for ")?;
     push(text, dialect.database_name())?;
-    push(text, b". It reads these tables:\n")?;
-    push_inputs(text, dialect, inputs)?;
+    push(text, epochs.reads_text())?;
+    push_inputs(text, dialect, epochs, inputs)?;
     push(text, form.arithmetic().promise_text())?;
     push(text, dialect.begin_text())
 }
@@ -225,10 +277,10 @@ fn text_of<A: Allocator>(
     let mut wanted = Vec::new(alloc);
     push_asked(&mut wanted, request.output, &script.results, outputs)?;
     let mut text = Vec::new(alloc);
-    push_head(&mut text, request.form, inputs)?;
+    push_head(&mut text, request.form, request.epochs, inputs)?;
     push_tables(
         &mut text,
-        request.form,
+        request,
         inputs,
         &script.made,
         &widths,
@@ -237,10 +289,9 @@ fn text_of<A: Allocator>(
     )?;
     push_results(
         &mut text,
-        request.form.dialect(),
+        request,
         inputs,
         &widths,
-        request.output,
         &script.results,
         outputs,
     )?;

@@ -3,9 +3,11 @@
 ghost use Rattle.std.specs.Prelude.{◌≡◌, ◌+◌, map, IfOk};
 ghost use Rattle.expr_tree.specs.Plain.{plain_input};
 ghost use Rattle.sql_meaning.specs.WellFormed.{query_width};
+ghost use Rattle.sql.specs.Epochs.{places};
 ghost use Rattle.sql.specs.Shown.{shown_query, shown_table};
 ghost use Rattle.sql.specs.Widths.{width_in};
 
+use crate::form::Epochs;
 use crate::table::{Query, Table};
 use expr_tree::Input;
 use record_core::NoMemory;
@@ -51,6 +53,16 @@ pub fn query_width<A: Allocator>(
         Query::Where(from, _) | Query::Distinct(from) | Query::SetOperation(_, from, _) => {
             Ok(table_width(inputs, widths, *from))
         }
+    }
+}
+
+/// By how many columns the rows of a table are sorted.
+pub fn places(epochs: Epochs, width: u64) -> Result<u64, NoMemory>
+    ensures { IfOk result (λ w. w ≡ places epochs width) }
+{
+    match epochs {
+        Epochs::One => Ok(width),
+        Epochs::Every => added(width, 1),
     }
 }
 

@@ -34,7 +34,7 @@ map-cond : (f : Record × Record → Record) (b : Bool) (x : Record × Record) (
 map-cond f true x xs = refl
 map-cond f false x xs = refl
 
-filter-append : (p : Record × Record → Bool) (xs ys : List (Record × Record)) → filter p (xs ++ ys) ≡ filter p xs ++ filter p ys
+pub filter-append : (p : Record × Record → Bool) (xs ys : List (Record × Record)) → filter p (xs ++ ys) ≡ filter p xs ++ filter p ys
 filter-append p [] ys = refl
 filter-append p (x ∷ xs) ys = go (p x) (filter-append p xs ys)
   where
@@ -42,7 +42,7 @@ filter-append p (x ∷ xs) ys = go (p x) (filter-append p xs ys)
     go true e = ap (λ z. x ∷ z) e
     go false e = e
 
-map-append : (f : Record × Record → Record) (xs ys : List (Record × Record)) → map f (xs ++ ys) ≡ map f xs ++ map f ys
+pub map-append : (f : Record × Record → Record) (xs ys : List (Record × Record)) → map f (xs ++ ys) ≡ map f xs ++ map f ys
 map-append f [] ys = refl
 map-append f (x ∷ xs) ys = ap (λ z. f x ∷ z) (map-append f xs ys)
 

@@ -28,13 +28,13 @@ plainly (Expression.product a b) r h = ap₂ (λ x y. x *ℤ y) (plainly a r h.0
 plainly (Expression.opposite a) r h = ap neg_ℤ (plainly a r h.0)
 plainly (Expression.wrapped a) r h = sym (word_of a r h) ∙ ap (int_wrap w64) (plainly a r h)
 
-searched : (c : Search) (r : Record) → SearchHasNoError (unwrapped_search c) r → is_true (unwrapped_search c) r ≡ is_true c r
+pub searched : (c : Search) (r : Record) → SearchHasNoError (unwrapped_search c) r → is_true (unwrapped_search c) r ≡ is_true c r
 searched (Search.compare o a b) r h = ap₂ (λ x y. compares o x y) (plainly a r h.0) (plainly b r h.1)
 searched (Search.both c d) r h = ap₂ (λ x y. x && y) (searched c r h.0) (searched d r h.1)
 searched (Search.either c d) r h = ap₂ (λ x y. x || y) (searched c r h.0) (searched d r h.1)
 searched (Search.no c) r h = ap not (searched c r h)
 
-items : (es : List Expression) (r : Record) → AllByRecursion (λ (e : Expression). HasNoError (unwrapped e) r) es → map (λ e. evaluated (unwrapped e) r) es ≡ map (λ e. evaluated e r) es
+pub items : (es : List Expression) (r : Record) → AllByRecursion (λ (e : Expression). HasNoError (unwrapped e) r) es → map (λ e. evaluated (unwrapped e) r) es ≡ map (λ e. evaluated e r) es
 items [] r h = refl
 items (e ∷ es) r h = ap₂ (λ z zs. z ∷ zs) (plainly e r h.0) (items es r h.1)
 
@@ -47,7 +47,7 @@ filters : (c : Search) (xs : List Record) → AllByRecursion (λ (r : Record). S
 filters c [] h = refl
 filters c (x ∷ xs) h = ap₂ (λ (b : Bool) zs. cond b (x ∷ zs) zs) (searched c x h.0) (filters c xs h.1)
 
-aggregate_same : (a : Aggregate) (rows : List Record) → int_wrap w64 (exactly_aggregated a rows) ≡ exactly_aggregated a rows → exactly_aggregated a rows ≡ aggregated a rows
+pub aggregate_same : (a : Aggregate) (rows : List Record) → int_wrap w64 (exactly_aggregated a rows) ≡ exactly_aggregated a rows → exactly_aggregated a rows ≡ aggregated a rows
 aggregate_same Aggregate.wrapped_count rows h = sym h
 aggregate_same (Aggregate.wrapped_sum c) rows h = sym h
 aggregate_same (Aggregate.least c) rows h = refl
@@ -75,7 +75,7 @@ rows_same (Query.union_all t u) holds h = refl
 rows_same (Query.except t u) holds h = refl
 rows_same (Query.intersect t u) holds h = refl
 
-contents_same : (qs : List Query) (tables : List (List Record)) → ScriptHasNoError qs tables → plain_contents qs tables ≡ contents qs tables
+pub contents_same : (qs : List Query) (tables : List (List Record)) → ScriptHasNoError qs tables → plain_contents qs tables ≡ contents qs tables
 contents_same [] tables h = refl
 contents_same (q ∷ earlier) tables h =
     ap (λ rows. with_table (length earlier) rows (plain_contents earlier tables)) (rows_same q (plain_contents earlier tables) h.1)

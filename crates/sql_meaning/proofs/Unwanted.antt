@@ -1,10 +1,10 @@
 -- Tables that nothing wanted reads can be left out.
-use Rattle.std.proofs.Common.{◌≡◌, ℕ, Bool, true, false, cond, nat_eq, ◌||◌, List, [], ◌∷◌, ◌++◌, map, length, refl, sym, subst, ap, ap₂, ◌∙◌, arith}
+use Rattle.std.proofs.Common.{◌≡◌, ℕ, Bool, true, false, cond, nat_eq, ◌||◌, List, [], ◌∷◌, ◌++◌, length, refl, sym, ap, ap₂, ◌∙◌, arith}
 use Rattle.std.proofs.lemmas.Bool.Decides.{nat_tests}
-use Rattle.std.specs.List.{AllByRecursion}
 use Rattle.semantics.specs.Multiset.{Record}
 use Rattle.sql_meaning.specs.Script.{Table, Query, Script}
-use Rattle.sql_meaning.specs.ScriptMeaning.{Contents, rows_of, with_table, only_given, contents, answers}
+use Rattle.sql_meaning.specs.ScriptMeaning.{Contents, rows_of, with_table, only_given, contents}
+use Rattle.sql_meaning.specs.Epochs.{rows_by_epoch, contents_by_epoch}
 use Rattle.sql_meaning.specs.Wanted.{is_in, number_of, reads, contents_of_wanted, IsWanted}
 
 or_true : (a : Bool) → (a || true) ≡ true
@@ -86,17 +86,38 @@ kept_out n ys wanted a b f h (Table.made m) w = by (nat_eq m n) refl
     by true e = (let same : m ≡ n = other_number m n e in let bad : true ≡ false = sym w ∙ ap (λ k. is_in k wanted) same ∙ f in absurd cc)
     by false e = h (Table.made m) w
 
-agree : (wanted : List ℕ) (qs : List Query) (tables : List (List Record)) → Agree wanted (contents_of_wanted wanted qs tables) (contents qs tables)
-agree wanted [] tables = λ t w. refl
-agree wanted (q ∷ earlier) tables = by (agree (wanted ++ reads q) earlier tables) (agree wanted earlier tables) (is_in (length earlier) wanted) refl
-  where
-    by : Agree (wanted ++ reads q) (contents_of_wanted (wanted ++ reads q) earlier tables) (contents earlier tables) → Agree wanted (contents_of_wanted wanted earlier tables) (contents earlier tables) → (c : Bool) → is_in (length earlier) wanted ≡ c → Agree wanted
-        (cond c (with_table (length earlier) (rows_of q (contents_of_wanted (wanted ++ reads q) earlier tables)) (contents_of_wanted (wanted ++ reads q) earlier tables)) (contents_of_wanted wanted earlier tables))
-        (contents (q ∷ earlier) tables)
-    by below same true e =
-        with_agree (length earlier) (rows_of q (contents_of_wanted (wanted ++ reads q) earlier tables)) (rows_of q (contents earlier tables)) wanted
-        (contents_of_wanted (wanted ++ reads q) earlier tables) (contents earlier tables) (rows_agree q wanted _ _ below) (λ t w. below t (kept t wanted (reads q) w))
-    by below same false e = kept_out (length earlier) (rows_of q (contents earlier tables)) wanted (contents_of_wanted wanted earlier tables) (contents earlier tables) e same
+-- the same of a script of all epochs
+rows_by_epoch_agree : (q : Query) (ms : List ℕ) (a b : Contents) → Agree (ms ++ reads q) a b → rows_by_epoch q a ≡ rows_by_epoch q b
+unfolding rows_by_epoch
+rows_by_epoch_agree (Query.select es t) ms a b h = ap (λ xs. rows_by_epoch (Query.select es t) (λ u. xs)) (h t (front t ms))
+rows_by_epoch_agree (Query.select_where t c) ms a b h = ap (λ xs. rows_by_epoch (Query.select_where t c) (λ u. xs)) (h t (front t ms))
+rows_by_epoch_agree (Query.select_join t u ps) ms a b h = rw (h t (first_of_two t u ms), h u (second_of_two t u ms)) refl
+rows_by_epoch_agree (Query.select_group ks as' t) ms a b h = ap (λ xs. rows_by_epoch (Query.select_group ks as' t) (λ u. xs)) (h t (front t ms))
+rows_by_epoch_agree (Query.select_distinct t) ms a b h = rows_agree (Query.select_distinct t) ms a b h
+rows_by_epoch_agree (Query.union_all t u) ms a b h = rows_agree (Query.union_all t u) ms a b h
+rows_by_epoch_agree (Query.except t u) ms a b h = rows_agree (Query.except t u) ms a b h
+rows_by_epoch_agree (Query.intersect t u) ms a b h = rows_agree (Query.intersect t u) ms a b h
 
-pub unwanted : (wanted : List ℕ) (s : Script) (tables : List (List Record)) (t : Table) → IsWanted wanted t → contents_of_wanted wanted s.tables tables t ≡ contents s.tables tables t
-unwanted wanted s tables t w = agree wanted s.tables tables t w
+-- what each table holds if all are made, by the rows of each query, which depend only on the tables that it reads
+module _ (rows : Query → Contents → List Record) (reading : (q : Query) (ms : List ℕ) (a b : Contents) → Agree (ms ++ reads q) a b → rows q a ≡ rows q b) (tables : List (List Record)) (all : List Query → Contents) (none : all [] ≡ only_given tables)
+    (more_made : (q : Query) (earlier : List Query) → all (q ∷ earlier) ≡ with_table (length earlier) (rows q (all earlier)) (all earlier))
+  where
+    abbrev some : List ℕ → List Query → Contents
+    some wanted qs = contents_of_wanted rows wanted qs tables
+
+    agree : (wanted : List ℕ) (qs : List Query) → Agree wanted (some wanted qs) (all qs)
+    agree wanted [] = λ t w. ap (λ (holds : Contents). holds t) (sym none)
+    agree wanted (q ∷ earlier) = λ t w. by (agree (wanted ++ reads q) earlier) (agree wanted earlier) (is_in (length earlier) wanted) refl t w ∙ ap (λ (holds : Contents). holds t) (sym (more_made q earlier))
+      where
+        by : Agree (wanted ++ reads q) (some (wanted ++ reads q) earlier) (all earlier) → Agree wanted (some wanted earlier) (all earlier) → (c : Bool) → is_in (length earlier) wanted ≡ c → Agree wanted
+            (cond c (with_table (length earlier) (rows q (some (wanted ++ reads q) earlier)) (some (wanted ++ reads q) earlier)) (some wanted earlier)) (with_table (length earlier) (rows q (all earlier)) (all earlier))
+        by below same true e =
+            with_agree (length earlier) (rows q (some (wanted ++ reads q) earlier)) (rows q (all earlier)) wanted (some (wanted ++ reads q) earlier) (all earlier) (reading q wanted _ _ below)
+            (λ t w. below t (kept t wanted (reads q) w))
+        by below same false e = kept_out (length earlier) (rows q (all earlier)) wanted (some wanted earlier) (all earlier) e same
+
+pub unwanted : (wanted : List ℕ) (s : Script) (tables : List (List Record)) (t : Table) → IsWanted wanted t → contents_of_wanted rows_of wanted s.tables tables t ≡ contents s.tables tables t
+unwanted wanted s tables t w = agree rows_of rows_agree tables (λ qs. contents qs tables) refl (λ q earlier. refl) wanted s.tables t w
+
+pub unwanted_by_epoch : (wanted : List ℕ) (s : Script) (tables : List (List Record)) (t : Table) → IsWanted wanted t → contents_of_wanted rows_by_epoch wanted s.tables tables t ≡ contents_by_epoch s.tables tables t
+unwanted_by_epoch wanted s tables t w = agree rows_by_epoch rows_by_epoch_agree tables (λ qs. contents_by_epoch qs tables) refl (λ q earlier. refl) wanted s.tables t w

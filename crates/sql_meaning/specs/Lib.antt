@@ -9,3 +9,5 @@ pub mod Remainder
 pub mod Plain
 pub mod PlainScript
 pub mod Wanted
+pub mod Epochs
+pub mod PlainEpochs

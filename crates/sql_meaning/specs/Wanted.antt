@@ -2,7 +2,7 @@
 use Rattle.std.specs.Prelude.{◌≡◌, ℕ, Bool, true, false, cond, nat_eq, ◌||◌, List, [], ◌∷◌, ◌++◌, length}
 use Rattle.semantics.specs.Multiset.{Record}
 use Rattle.sql_meaning.specs.Script.{Table, Query}
-use Rattle.sql_meaning.specs.ScriptMeaning.{Contents, rows_of, with_table, only_given}
+use Rattle.sql_meaning.specs.ScriptMeaning.{Contents, with_table, only_given}
 
 -- the number is in the list
 abbrev pub is_in : ℕ → List ℕ → Bool
@@ -25,13 +25,14 @@ reads (Query.union_all t u) = number_of t ++ number_of u
 reads (Query.except t u) = number_of t ++ number_of u
 reads (Query.intersect t u) = number_of t ++ number_of u
 
--- what each table holds after the tables of a script, the latest first, if only those are made that are wanted, or that one reads that is made
-abbrev pub contents_of_wanted : (wanted : List ℕ) → List Query → List (List Record) → Contents
-contents_of_wanted wanted [] tables = only_given tables
-contents_of_wanted wanted (q ∷ earlier) tables =
+-- what each table holds after the tables of a script, the latest first, if only those are made that are wanted, or that one reads that is made; `rows`
+-- gives the rows of a query
+abbrev pub contents_of_wanted : (rows : Query → Contents → List Record) → (wanted : List ℕ) → List Query → List (List Record) → Contents
+contents_of_wanted rows wanted [] tables = only_given tables
+contents_of_wanted rows wanted (q ∷ earlier) tables =
     cond (is_in (length earlier) wanted)
-    (with_table (length earlier) (rows_of q (contents_of_wanted (wanted ++ reads q) earlier tables)) (contents_of_wanted (wanted ++ reads q) earlier tables))
-    (contents_of_wanted wanted earlier tables)
+    (with_table (length earlier) (rows q (contents_of_wanted rows (wanted ++ reads q) earlier tables)) (contents_of_wanted rows (wanted ++ reads q) earlier tables))
+    (contents_of_wanted rows wanted earlier tables)
 
 -- a given table, or one that is wanted
 abbrev pub IsWanted : List ℕ → Table → Type 0

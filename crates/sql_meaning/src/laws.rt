@@ -8,12 +8,14 @@ ghost use Rattle.semantics.specs.Query.{Scalar, Input, Program};
 ghost use Rattle.semantics.specs.Typing.{WellTyped};
 ghost use Rattle.sql_meaning.specs.AnyOrder.{MayAnswer};
 ghost use Rattle.sql_meaning.specs.Count.{program_count};
+ghost use Rattle.sql_meaning.specs.Epochs.{answers_by_epoch, contents_by_epoch, rows_at, rows_by_epoch, HaveEpochs};
 ghost use Rattle.sql_meaning.specs.Plain.{plain, HasNoError};
+ghost use Rattle.sql_meaning.specs.PlainEpochs.{plain_answers_by_epoch, NoEpochHasError};
 ghost use Rattle.sql_meaning.specs.PlainScript.{plain_answers, ScriptHasNoError};
 ghost use Rattle.sql_meaning.specs.Range.{IsRowOfWords, StaysModerate};
 ghost use Rattle.sql_meaning.specs.Remainder.{by_remainders};
 ghost use Rattle.sql_meaning.specs.Script.{Script, Table};
-ghost use Rattle.sql_meaning.specs.ScriptMeaning.{answers, contents, evaluated};
+ghost use Rattle.sql_meaning.specs.ScriptMeaning.{answers, contents, evaluated, rows_of};
 ghost use Rattle.sql_meaning.specs.Translation.{expression, script_of, HaveWords};
 ghost use Rattle.sql_meaning.specs.Wanted.{contents_of_wanted, IsWanted};
 ghost use Rattle.sql_meaning.specs.WellFormed.{IsWellFormed};
@@ -63,5 +65,25 @@ pub fn law_right_or_error()
 /// A wanted table holds the same where only wanted tables are made, and those that one reads that is made.
 pub fn law_wanted()
     ensures { (wanted : List ℕ) (s : Script) (tables : List (List Record)) (t : Table) → IsWanted wanted t →
-        contents_of_wanted wanted s.tables tables t ≡ contents s.tables tables t }
+        contents_of_wanted rows_of wanted s.tables tables t ≡ contents s.tables tables t }
+{}
+
+/// The script of all epochs: on tables whose first column is the epoch, its rows of an epoch, without it, are what the program means on that epoch's
+/// rows.
+pub fn law_epochs()
+    ensures { (p : Program) (output : ℕ) (tables : List (List Record)) (epoch : ℤ) → length tables ≡ length p.inputs →
+        AllByRecursion HaveWords tables → AllByRecursion HaveEpochs tables →
+        rows_at epoch (slice_index_or (answers_by_epoch (script_of p) tables) output []) ≈ program_meaning p output (λ i. rows_at epoch (slice_index_or tables i [])) }
+{}
+
+/// As `law_right_or_error`, of the script of all epochs: where no operator, count or sum is an error in any epoch.
+pub fn law_epochs_right_or_error()
+    ensures { (s : Script) (tables : List (List Record)) → AllByRecursion HaveEpochs tables → NoEpochHasError s.tables tables →
+        plain_answers_by_epoch s tables ≡ answers_by_epoch s tables }
+{}
+
+/// As `law_wanted`, of the script of all epochs.
+pub fn law_epochs_wanted()
+    ensures { (wanted : List ℕ) (s : Script) (tables : List (List Record)) (t : Table) → IsWanted wanted t →
+        contents_of_wanted rows_by_epoch wanted s.tables tables t ≡ contents_by_epoch s.tables tables t }
 {}

@@ -1,6 +1,6 @@
 use Rattle.sql.specs.Text.{declared_text}
 use Rattle.sql.proofs.Texts.{numbered_more, two_texts}
-use Rattle.sql.proofs.columns.push_declared.Goals as goal
+use Rattle.sql.proofs.columns.push_numbered_declared.Goals as goal
 
 pub loop-i-preserved : goal.loop-i-preserved
 loop-i-preserved c =

@@ -1,0 +1,10 @@
+pub mod PrefixWords
+pub mod TreesReadBack
+pub mod TreesOfExpressions
+pub mod ListsReadBack
+pub mod QueriesReadBack
+pub mod NumberedReadBack
+pub mod ScriptsReadBack
+pub mod TextsReadBack
+pub mod NeatScripts
+pub mod ScriptsAreReadable
