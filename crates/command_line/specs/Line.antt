@@ -64,9 +64,12 @@ format_app = queried (new_app (codes "format"))
 abbrev pub named_rule : Text → Rule
 named_rule id = record (new_rule id) { long = Some id; value_names = 1 }
 
--- `sql QUERY`, with or without `--wrapped`, `--dialect NAME` and `--output NAME`
+-- `sql QUERY`, with or without `--wrapped`, `--epochs`, `--dialect NAME` and `--output NAME`
 abbrev pub sql_app : App
-sql_app = queried (with_rule (with_rule (with_rule (new_app (codes "sql")) (flag_rule (codes "wrapped"))) (named_rule (codes "dialect"))) (named_rule (codes "output")))
+sql_app =
+    queried
+    (with_rule (with_rule (with_rule (with_rule (new_app (codes "sql")) (flag_rule (codes "wrapped"))) (flag_rule (codes "epochs"))) (named_rule (codes "dialect")))
+    (named_rule (codes "output")))
 
 -- `--end-mark`
 abbrev pub end_mark_rule : Rule
@@ -219,8 +222,9 @@ HoldsAt name rows (Graph query form heap explain) =
     × IsAskedHeap (one_of (codes "heap") rows) heap
     × IsFlag (codes "explain") rows explain
 HoldsAt name rows (Format query explain) = (name ≡ codes "format") × IsAskedQuery rows query × IsFlag (codes "explain") rows explain
-HoldsAt name rows (Sql query form output explain) =
-    (name ≡ codes "sql") × IsAskedQuery rows query × IsForm rows form × (option_map (λ s. s.now) output ≡ first_of (codes "output") rows)
+HoldsAt name rows (Sql query form epochs output explain) =
+    (name ≡ codes "sql") × IsAskedQuery rows query × IsForm rows form × IsFlag (codes "epochs") rows epochs
+    × (option_map (λ s. s.now) output ≡ first_of (codes "output") rows)
     × IsFlag (codes "explain") rows explain
 HoldsAt name rows (Replay query schedule workers views explain) =
     (name ≡ codes "replay") × IsAskedQuery rows query × (first_of (codes "SCHEDULE") rows ≡ Some schedule.now)
@@ -253,7 +257,7 @@ NamesInputTwice (Check query (Some input) heap explain) = AreBothInput query inp
 NamesInputTwice (Check query None heap explain) = ⊥
 NamesInputTwice (Graph query form heap explain) = ⊥
 NamesInputTwice (Format query explain) = ⊥
-NamesInputTwice (Sql query form output explain) = ⊥
+NamesInputTwice (Sql query form epochs output explain) = ⊥
 NamesInputTwice (Replay query schedule workers views explain) = AreBothInput query schedule.now
 NamesInputTwice (Explain code) = ⊥
 

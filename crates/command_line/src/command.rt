@@ -217,6 +217,11 @@ fn sql_command<'a>(alloc: Global) -> Result<Command<'a>, AllocError>
             "wrapped",
             "Wrap numbers at 64 bits; else one of more bits ends the script with an error",
         ))?
+        .arg(flag_arg(
+            alloc,
+            "epochs",
+            "All epochs at once: the first column of each table is the epoch",
+        ))?
         .arg(named_arg(
             alloc,
             "dialect",
@@ -532,11 +537,13 @@ fn sql_options<'a>(found: &ArgMatches<'a>) -> Option<Options<'a>>
 {
     let query = query_of(found)?;
     let form = form_of(found)?;
+    let epochs = flag_of(found, "epochs");
     let output = text_of(found, "output");
     let explain = flag_of(found, "explain");
     Some(Options::Sql {
         query,
         form,
+        epochs,
         output,
         explain,
     })

@@ -2,6 +2,7 @@ pub mod QueryFaults
 pub mod OneMore
 pub mod SameForAll
 pub mod UsedNames
+pub mod FedEpochs
 pub mod CheckedInputs
 pub mod Rewritten
 pub mod OneGraph

@@ -5,5 +5,6 @@ pub mod Checked
 pub mod CheckedInputs
 pub mod Canonical
 pub mod Unused
+pub mod Early
 pub mod SameForAll
 pub mod Scripts

@@ -9,7 +9,7 @@
 //!
 //! The contract for the layers above is that of the composition. On any inputs the graph has exactly one flow, and it brings to each output what
 //! the text's program means there; where there is no graph, the text's first fault is named, or its size. A text has one such graph. The check of
-//! a query, alone or with an input, its canonical text and its script of SQL stop on the way: `checked_text`, `checked_input_text`, `canonical_text`, `script_text`.
+//! a query, alone or with an input, its canonical text and its script of SQL stop on the way: `checked_text`, `checked_input`, `canonical_text`, `script_text`.
 //!
 //! Nothing here runs a graph, reads a file or writes one: bytes come in, and bytes, a graph or a fault come out. Below are the crates of the
 //! language, `graph`, the collector, which reads the input that is checked, and `diagnostics`, which has the faults.
@@ -17,6 +17,7 @@
 
 mod checking;
 mod constants;
+mod early;
 mod fault;
 mod formatting;
 mod input_check;
@@ -36,18 +37,19 @@ ghost use Rattle.compile.specs.Compiled.{IsCompiled, IsUncompiled};
 ghost use Rattle.compile.specs.Queries.{IsRefusal, IsTypedQuery};
 
 pub use checking::{checked_text, push_input, push_output};
+pub use early::{input_places, noted_early};
 use fault::compile_fault;
 pub use fault::{CompileFault, graph_fault, input_fault};
 pub use formatting::canonical_text;
 use graph::Graph;
-pub use input_check::checked_input_text;
+pub use input_check::{CheckedInput, checked_input};
 pub use laws::law_one_graph;
 use lowering::{LowerFault, lower};
 use normalise::normalise;
 use parser::parse;
 use record_core::{NoMemory, Refusal};
 pub use scripting::script_text;
-pub use sql::{Arithmetic, Form, Request};
+pub use sql::{Arithmetic, Epochs, Form, Request};
 use std::alloc::{Allocator, Global};
 use typing::{Typed, check};
 pub use warnings::warnings_of;

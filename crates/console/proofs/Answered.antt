@@ -50,6 +50,6 @@ run_answered texts read (Follow query input workers first end_mark explain) q i 
 run_answered texts read (Check query input heap explain) q i m old new a d = absurd a
 run_answered texts read (Graph query form heap explain) q i m old new a d = absurd a
 run_answered texts read (Format query explain) q i m old new a d = absurd a
-run_answered texts read (Sql query form output explain) q i m old new a d = absurd a
+run_answered texts read (Sql query form epochs output explain) q i m old new a d = absurd a
 run_answered texts read (Replay query schedule workers views explain) q i m old new a d = absurd a
 run_answered texts read (Explain code) q i m old new a d = absurd a

@@ -1,6 +1,7 @@
 pub mod Answering
 pub mod RunEnds
 pub mod Reporting
+pub mod Noting
 pub mod FollowedText
 pub mod ReplayedText
 pub mod Heeding

@@ -9,6 +9,8 @@ use Rattle.command_line.specs.declared.script_form.ScriptForm.TheVariants as scr
 use Rattle.sql.specs.Asked.{Asked}
 use Rattle.sql.specs.declared.form.Arithmetic.{Arithmetic}
 use Rattle.sql.specs.declared.form.Arithmetic.TheVariants.{Plain, Wrapped}
+use Rattle.sql.specs.declared.form.Epochs.{Epochs}
+use Rattle.sql.specs.declared.form.Epochs.TheVariants as epochs
 use Rattle.sql.specs.declared.form.Form.{Form}
 use Rattle.sql.specs.declared.form.Form.TheVariants as form
 
@@ -40,7 +42,7 @@ asks_inline (Follow query input workers first end_mark explain) = on_line query
 asks_inline (Check query input heap explain) = on_line query
 asks_inline (Graph query form heap explain) = on_line query
 asks_inline (Format query explain) = on_line query
-asks_inline (Sql query form output explain) = on_line query
+asks_inline (Sql query form epochs output explain) = on_line query
 asks_inline (Replay query schedule workers views explain) = on_line query
 asks_inline (Explain code) = false
 
@@ -55,9 +57,14 @@ form_asked (script.Postgres wrapped) = form.Postgres (arithmetic_asked wrapped)
 form_asked script.Sqlite = form.Sqlite
 form_asked (script.Spark wrapped) = form.Spark (arithmetic_asked wrapped)
 
+-- the epochs that a flag asks for
+abbrev pub epochs_asked : Bool → Epochs
+epochs_asked false = epochs.One
+epochs_asked true = epochs.Every
+
 -- the script that is asked for
-abbrev pub script_asked : ScriptForm → Option (List ℕ) → Asked
-script_asked f output = record { form = form_asked f; output = output }
+abbrev pub script_asked : ScriptForm → (epochs : Bool) → Option (List ℕ) → Asked
+script_asked f e output = record { form = form_asked f; epochs = epochs_asked e; output = output }
 
 -- where the query of the options is found
 abbrev pub queries_of : Options → Known → Known

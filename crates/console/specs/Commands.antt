@@ -63,7 +63,7 @@ EndsOn queries texts (Follow query input workers first end_mark explain) old new
 EndsOn queries texts (Check query input heap explain) old new result = ChecksOn queries texts (query_word query) (option_map (λ s. s.now) input) old new result
 EndsOn queries texts (Graph query form heap explain) old new result = GraphsOn queries form (query_word query) old new result
 EndsOn queries texts (Format query explain) old new result = FormatsOn queries (query_word query) old new result
-EndsOn queries texts (Sql query form output explain) old new result = ScriptsOn queries (script_asked form (option_map (λ s. s.now) output)) (query_word query) old new result
+EndsOn queries texts (Sql query form epochs output explain) old new result = ScriptsOn queries (script_asked form epochs (option_map (λ s. s.now) output)) (query_word query) old new result
 EndsOn queries texts (Replay query schedule workers views explain) old new result = ReplaysOn queries texts workers (kind_asked views) (query_word query) schedule.now old new result
 EndsOn queries texts (Explain code) old new result = Explains code.now old new result
 
@@ -111,6 +111,6 @@ AsksRun (Follow query input workers first end_mark explain) q i m = ⊥
 AsksRun (Check query input heap explain) q i m = ⊥
 AsksRun (Graph query form heap explain) q i m = ⊥
 AsksRun (Format query explain) q i m = ⊥
-AsksRun (Sql query form output explain) q i m = ⊥
+AsksRun (Sql query form epochs output explain) q i m = ⊥
 AsksRun (Replay query schedule workers views explain) q i m = ⊥
 AsksRun (Explain code) q i m = ⊥

@@ -1,5 +1,5 @@
 -- What is reported of what each vertex did in a run.
-use Rattle.std.specs.Prelude.{◌≡◌, ◌⊎◌, ℕ, List, Option, Some, None, length}
+use Rattle.std.specs.Prelude.{◌≡◌, ◌⊎◌, ℕ, List, Option, Some, None, codes, length}
 use Rattle.graph.specs.Shown.{GraphValue, shown_graph, shown_inputs, shown_names}
 use Rattle.collector.specs.InputText.{IsReadFrom}
 use Rattle.collector.specs.WrittenBytes.{AppendsFront}
@@ -14,10 +14,15 @@ use Rattle.command_line.specs.declared.line_options.GraphForm.{GraphForm}
 use Rattle.command_line.specs.declared.line_options.GraphForm.TheVariants.{Lines, Dot}
 use Rattle.console.specs.declared.counting.Reporting.{Reporting}
 
--- The lines are those of the counters, of which each vertex has some; a writer that fails was given a beginning, and without memory nothing is
--- written. Of a drawing nothing is said.
+-- the line in the place of the counters where there was no memory for them
+abbrev pub no_counters : List ℕ
+no_counters = codes "out of memory for the counters\n"
+
+-- The lines are those of the counters, of which each vertex has some, or the line that there are none; a writer that fails was given a beginning.
+-- Of a drawing nothing is said.
 abbrev pub ReportsIn : GraphForm → GraphValue → Rows → (old new : Option (List ℕ)) → Type 0
-ReportsIn Lines g rows old new = (new ≡ old) ⊎ ((length rows ≡ length (shown_graph g)) × ((text : List ℕ) × IsReport g rows text × AppendsFront old new text))
+ReportsIn Lines g rows old new =
+    (new ≡ old) ⊎ AppendsFront old new no_counters ⊎ ((length rows ≡ length (shown_graph g)) × ((text : List ℕ) × IsReport g rows text × AppendsFront old new text))
 ReportsIn Dot g rows old new = Unit {0}
 
 -- the same, if a report is asked for

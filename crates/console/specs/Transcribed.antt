@@ -113,6 +113,6 @@ EndsOnRead queries texts (Follow query input workers first end_mark explain) old
 EndsOnRead queries texts (Check query input heap explain) old new result = ChecksOnTexts queries texts (query_word query) (option_map (λ s. s.now) input) old new result
 EndsOnRead queries texts (Graph query form heap explain) old new result = GraphsOnTexts queries texts form (query_word query) old new result
 EndsOnRead queries texts (Format query explain) old new result = FormatsOnTexts queries texts (query_word query) old new result
-EndsOnRead queries texts (Sql query form output explain) old new result = ScriptsOnTexts queries texts (script_asked form (option_map (λ s. s.now) output)) (query_word query) old new result
+EndsOnRead queries texts (Sql query form epochs output explain) old new result = ScriptsOnTexts queries texts (script_asked form epochs (option_map (λ s. s.now) output)) (query_word query) old new result
 EndsOnRead queries texts (Replay query schedule workers views explain) old new result = ReplaysOnTexts queries texts workers (kind_asked views) (query_word query) schedule.now old new result
 EndsOnRead queries texts (Explain code) old new result = Unit {0}

@@ -16,6 +16,9 @@ use std::alloc::Global;
 use std::io::Write;
 use std::sync::Arc;
 
+/// What stands in the place of the counters where there is no memory for them.
+const NO_COUNTERS: &[u8] = b"out of memory for the counters\n";
+
 /// How what is counted is reported.
 #[derive(Drop)]
 pub struct Reporting {
@@ -45,7 +48,7 @@ impl Reporting {
         }
     }
 
-    /// Writes the lines or the drawing. Where there is no memory for it, nothing is written; a writer that fails was given a beginning.
+    /// Writes the lines or the drawing, or that there is no memory for them; a writer that fails was given a beginning.
     fn write<E: Write>(&self, alloc: Global, tally: &Tally, err: &mut E)
         ensures { ReportsIn self.now.form self.now.statistics.graph.value tally.now (E.contents err.old) (E.contents err.new) }
     {
@@ -63,16 +66,17 @@ fn write_lines<E: Write>(alloc: Global, statistics: &Statistics, tally: &Tally, 
     if tally.len() != statistics.vertex_count() {
         return;
     }
-    let Ok(text) = statistics.text(alloc, tally) else {
-        return;
-    };
-    write_front(err, &text);
+    match statistics.text(alloc, tally) {
+        Ok(text) => write_front(err, &text),
+        Err(_) => write_front(err, NO_COUNTERS),
+    }
 }
 
 /// Writes the drawing.
 fn write_dot<E: Write>(alloc: Global, statistics: &Statistics, tally: &Tally, err: &mut E) {
-    if let Ok(text) = statistics.dot(alloc, tally) {
-        write_front(err, &text);
+    match statistics.dot(alloc, tally) {
+        Ok(text) => write_front(err, &text),
+        Err(_) => write_front(err, NO_COUNTERS),
     }
 }
 

@@ -3,7 +3,7 @@
 ghost use Rattle.std.specs.Prelude.{◌≡◌, map, option_map, IfNone, IfSome};
 ghost use Rattle.collector.specs.Watching.{inner_of};
 ghost use Rattle.command_line.specs.Faults.{line_status_of};
-ghost use Rattle.console.specs.Asked.{arithmetic_asked, asks_inline, form_asked, on_line, queries_of, query_word, script_asked};
+ghost use Rattle.console.specs.Asked.{arithmetic_asked, asks_inline, epochs_asked, form_asked, on_line, queries_of, query_word, script_asked};
 ghost use Rattle.sql.specs.Asked.{asked_of};
 ghost use Rattle.console.specs.Commands.{Answers, EndsOn, Obeys, status_after};
 ghost use Rattle.console.specs.Transcribed.{EndsOnRead};
@@ -19,10 +19,10 @@ use crate::transcripts::Transcripts;
 use bumpalo::Bump;
 use collector::{Sources, Watched};
 use command_line::{LineFault, Options, Query, ScriptForm, options};
-use compile::{Arithmetic, Form, Request, warnings_of};
+use compile::{Arithmetic, Epochs, Form, Request, input_places, warnings_of};
 use diagnostics::{
-    Fault, Plain, TextNames, Texts, Word, explain_fault, row_of_word, write_explanation,
-    write_path_hint, write_told, write_warnings,
+    Fault, Plain, TextNames, Texts, Word, explain_fault, row_of_word, write_early,
+    write_explanation, write_path_hint, write_told, write_warnings,
 };
 use refusals::NUMBERS;
 use schedule::ViewKind;
@@ -65,9 +65,16 @@ fn form_of(form: ScriptForm) -> Form
     }
 }
 
+/// Of which epochs a script is.
+fn epochs_of(epochs: bool) -> Epochs
+    ensures { result ≡ epochs_asked epochs }
+{
+    if epochs { Epochs::Every } else { Epochs::One }
+}
+
 /// The script that is asked for.
-fn request_of<'a>(form: ScriptForm, output: Option<&'a str>) -> Request<'a>
-    ensures { asked_of result ≡ script_asked form (option_map (λ s. s.now) output.entry) }
+fn request_of<'a>(form: ScriptForm, epochs: bool, output: Option<&'a str>) -> Request<'a>
+    ensures { asked_of result ≡ script_asked form epochs (option_map (λ s. s.now) output.entry) }
 {
     let output = match output {
         None => None,
@@ -75,6 +82,7 @@ fn request_of<'a>(form: ScriptForm, output: Option<&'a str>) -> Request<'a>
     };
     Request {
         form: form_of(form),
+        epochs: epochs_of(epochs),
         output,
     }
 }
@@ -179,22 +187,52 @@ fn write_fault<E: Write>(
     err.write_all(text.as_slice())
 }
 
-/// Writes what a query that was checked has by mistake most likely, where that is asked for; nothing where there is no memory for it.
-fn warn<E: Write>(alloc: Global, asked: &Options, texts: &Texts, err: &mut E) -> io::Result<()> {
-    let Options::Check {
-        query,
-        explain: true,
-        ..
-    } = asked
-    else {
-        return Ok(());
-    };
+/// Appends what a query has by mistake most likely; nothing where there is no memory for it.
+fn push_query_warnings(
+    alloc: Global,
+    query: &str,
+    texts: &Texts,
+    text: &mut Vec<u8>,
+) -> io::Result<()> {
     let arena = Bump::new(alloc);
-    let Ok(warnings) = warnings_of(alloc, &arena, &texts.query) else {
+    match warnings_of(alloc, &arena, &texts.query) {
+        Ok(warnings) => write_warnings(query, &texts.query, &warnings, text),
+        Err(_) => Ok(()),
+    }
+}
+
+/// Appends which inputs were fed in the first epoch alone, where others were fed later; nothing where there is no memory for it.
+fn push_early(alloc: Global, query: &str, texts: &Texts, text: &mut Vec<u8>) -> io::Result<()> {
+    if texts.early.is_empty() {
         return Ok(());
-    };
+    }
+    let arena = Bump::new(alloc);
+    match input_places(alloc, &arena, &texts.query) {
+        Ok(places) => write_early(query, &texts.query, &places, &texts.early, text),
+        Err(_) => Ok(()),
+    }
+}
+
+/// Writes what a query that was checked, or an input that was read, has by mistake most likely, where that is asked for.
+fn warn<E: Write>(alloc: Global, asked: &Options, texts: &Texts, err: &mut E) -> io::Result<()> {
     let mut text = Vec::new(alloc);
-    write_warnings(shown_name(*query), &texts.query, &warnings, &mut text)?;
+    match asked {
+        Options::Check {
+            query,
+            explain: true,
+            ..
+        } => {
+            let query = shown_name(*query);
+            push_query_warnings(alloc, query, texts, &mut text)?;
+            push_early(alloc, query, texts, &mut text)?;
+        }
+        Options::Run {
+            query,
+            explain: true,
+            ..
+        } => push_early(alloc, shown_name(*query), texts, &mut text)?,
+        _ => return Ok(()),
+    }
     err.write_all(text.as_slice())
 }
 
@@ -282,11 +320,12 @@ fn answer_alone<'a, Q: Sources<'a>, S: Sources<'a>, W: Write>(
         Options::Sql {
             query,
             form,
+            epochs,
             output,
             ..
         } => {
             let query = place_of(queries, query);
-            Some(script_named(alloc, request_of(form, output), query, out, kept))
+            Some(script_named(alloc, request_of(form, epochs, output), query, out, kept))
         }
         Options::Explain { code } => match row_of_word(code) {
             Some(row) => Some(write_explanation(alloc, row, out)),

@@ -6,6 +6,7 @@ ghost use Rattle.graph.specs.Limits.{max_vertices};
 ghost use Rattle.collector.specs.InputText.{IsReadFrom, IsRefused};
 ghost use Rattle.collector.specs.Watching.{has_failed, inner_of};
 ghost use Rattle.compile.specs.Compiled.{IsCompiled, IsQueryFault};
+ghost use Rattle.compile.specs.Early.{NotesEarly};
 ghost use Rattle.command_line.specs.Counts.{count_of};
 ghost use Rattle.console.specs.Heeded.{Heeds};
 ghost use Rattle.console.specs.Readings.{HeedsOver, KeepsInput, KeepsQuery, RunsOnHanded, RunsOver};
@@ -20,7 +21,7 @@ use crate::streams::Streams;
 use bumpalo::Bump;
 use collector::{Epochs, InputRefusal, Watched};
 use command_line::Workers;
-use compile::{compile, graph_fault, input_fault};
+use compile::{compile, graph_fault, input_fault, noted_early};
 use diagnostics::{Fault, Texts};
 use graph::Graph;
 use parallel_texts::read_by_threads;
@@ -57,13 +58,14 @@ fn epochs_of_text<R: Threads + Sync>(
     read_by_threads(rt, alloc, workers.count(), input, graph.inputs())
 }
 
-/// Answers a query text over an input text.
+/// Answers a query text over an input text, and notes which inputs are early.
 fn answer<R: Threads + Wait + Sync, G: Gate + Sync, W: Write, O: Write + Send + Drop, E: Write>(
     rt: &R,
     alloc: Global,
     options: RunOptions<'_, G>,
     query: &[u8],
     input: &[u8],
+    early: &mut Vec<u32>,
     streams: &mut Streams<W, E, O>,
 ) -> Result<(), Fault>
     ensures ends { Ends query.now input.now (W.contents (inner_of streams.old.out)) (W.contents (inner_of streams.new.out)) result }
@@ -72,6 +74,7 @@ fn answer<R: Threads + Wait + Sync, G: Gate + Sync, W: Write, O: Write + Send + 
     ensures several { IsErrOf result fault.NoWorker → 1 < count_of options.entry.workers }
     ensures read { IfErr result IsAfterReading }
     ensures counts { ReportsOver options.entry.stats query.now input.now (E.contents streams.old.err) (E.contents streams.new.err) }
+    ensures early { IfOk result (λ _. NotesEarly query.now input.now early.new.items) }
 {
     let graph = match graph_of_text(alloc, query) {
         Ok(graph) => graph,
@@ -81,6 +84,7 @@ fn answer<R: Threads + Wait + Sync, G: Gate + Sync, W: Write, O: Write + Send + 
         Ok(epochs) => epochs,
         Err(refusal) => return Err(input_fault(refusal)),
     };
+    *early = noted_early(alloc, &epochs, graph.inputs().len());
     respond(rt, alloc, options, graph, &epochs, streams)
 }
 
@@ -91,7 +95,7 @@ fn answer<R: Threads + Wait + Sync, G: Gate + Sync, W: Write, O: Write + Send + 
 /// it, and a worker that can't be started before anything is written. The texts that were read are left in `texts`. A watcher gets lines
 /// `passed M` with rising numbers, the last one once all workers have ended; if its writer fails, nothing else changes. If `stats` is asked
 /// for, lines on `err` say, once the answer is written, what each vertex of the graph computed, took in and sent; if that writer fails,
-/// nothing else changes.
+/// nothing else changes. The inputs that are fed in the first epoch alone, where others are fed later, are noted in `texts`.
 pub fn run<
     R: Threads + Wait + Sync,
     G: Gate + Sync,
@@ -120,10 +124,22 @@ pub fn run<
     ensures kept_query { KeepsQuery (Q.remaining (inner_of query.old)) result texts.new.query.items }
     ensures kept_input { KeepsInput (I.remaining (inner_of input.old)) result texts.new.input.items }
     ensures counts { ReportsOver options.entry.stats texts.new.query.items texts.new.input.items (E.contents streams.old.err) (E.contents streams.new.err) }
+    ensures early { IfOk result (λ _. NotesEarly texts.new.query.items texts.new.input.items texts.new.early.items) }
 {
     match read_texts(alloc, query, input, texts) {
         Ok(()) => {}
         Err(fault) => return Err(fault),
     }
-    answer(rt, alloc, options, &texts.query, &texts.input, streams)
+    let mut early = Vec::new(alloc);
+    let done = answer(
+        rt,
+        alloc,
+        options,
+        &texts.query,
+        &texts.input,
+        &mut early,
+        streams,
+    );
+    texts.early = early;
+    done
 }

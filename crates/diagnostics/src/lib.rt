@@ -2,7 +2,7 @@
 //!
 //! A `Fault` has a code, with the bytes or the line where it was found. `explain_fault` shows that place in the texts that were read, and
 //! says what is wrong there with the names and the numbers involved; `write_path_hint` helps where a query's text stands for its path;
-//! `write_warnings` tells what is accepted, and most likely a mistake;
+//! `write_warnings` and `write_early` tell what is accepted, and most likely a mistake;
 //! `row_of_word` finds the table's row of a number, and `write_explanation` writes it. The contract for the layer above: a fault's status,
 //! and that the text of a row is written whole, or a beginning of it where the writer failed, or nothing. This crate uses the parser and
 //! typing, which read a query's text once more, the parser also to try which words can come at a place; the table of refusals, and the
@@ -35,4 +35,4 @@ pub use explanation::{row_of_word, write_explanation};
 pub use fault::Fault;
 pub use read_texts::Texts;
 pub use reason::{write_path_hint, write_told};
-pub use warnings::{Doubt, Unused, Warnings, write_warnings};
+pub use warnings::{Doubt, Unused, Warnings, write_early, write_warnings};

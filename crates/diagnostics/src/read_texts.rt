@@ -16,6 +16,8 @@ pub struct Texts {
     pub input_from: u64,
     /// What the system said where one of them couldn't be read.
     pub reason: Option<ErrorKind>,
+    /// The numbers of the inputs that were fed in the first epoch alone, where others were fed later.
+    pub early: Vec<u32>,
 }
 
 impl Texts {
@@ -29,6 +31,7 @@ impl Texts {
             input: Vec::new(alloc),
             input_from: 1,
             reason: None,
+            early: Vec::new(alloc),
         }
     }
 }

@@ -49,6 +49,28 @@ fn write_unused<W: Write>(
     Ok(())
 }
 
+/// Writes that inputs are fed in the first epoch alone. The names of all inputs are at the places, and the numbers say which of them are meant.
+pub fn write_early<W: Write>(
+    path: &str,
+    text: &[u8],
+    places: &[Span],
+    early: &[u32],
+    writer: &mut W,
+) -> io::Result<()> {
+    for number in early {
+        let Some(place) = places.get(*number as usize) else {
+            continue;
+        };
+        write_place(path, text, place.start as usize, writer)?;
+        let name = Word(span_bytes(text, *place));
+        writeln!(
+            writer,
+            "warning: the input {name} is fed in epoch 0 only, and each epoch is answered by itself"
+        )?;
+    }
+    Ok(())
+}
+
 /// Writes what comes out alike.
 fn write_doubt<W: Write>(path: &str, text: &[u8], doubt: Doubt, writer: &mut W) -> io::Result<()> {
     match doubt {

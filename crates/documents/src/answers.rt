@@ -183,10 +183,10 @@ fn asks_more(words: &[&str]) -> bool {
 }
 
 /// Whether each stream has what it may have: standard output an answer, and standard error what is wrong. Only `follow` answers before it
-/// fails, and only warnings of `check` and reports that are asked for come beside an answer.
+/// fails, and only warnings of `--explain` and reports that are asked for come beside an answer.
 fn are_apart(command: &str, words: &[&str], printed: &Printed) -> bool {
     if printed.status == 0 {
-        command == "check" || asks_more(words) || printed.err.is_empty()
+        words.contains(&"--explain") || asks_more(words) || printed.err.is_empty()
     } else {
         command == "follow" || printed.out.is_empty()
     }

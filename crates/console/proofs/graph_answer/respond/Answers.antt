@@ -5,6 +5,8 @@ use Rattle.graph.specs.Shown.{GraphValue}
 use Rattle.collector.specs.Watching.{inner_of}
 use Rattle.workers.proofs.Crossing.{direct_send, local_views_send}
 use Rattle.console.specs.Answers.{RespondsBy}
+use Rattle.console.specs.Reported.{ReportsFor}
+use Rattle.console.proofs.Reporting.{reported_for}
 use Rattle.console.proofs.graph_answer.respond.Goals as goal
 
 -- a single worker
@@ -25,3 +27,9 @@ returns-in-Ok-with_local_views-clause-text g c =
     let answered = c.respond_on-in-Ok-with_local_views in
     subst (λ (graph : GraphValue). RespondsBy graph c.args.epochs.now (g.W.Write.contents (inner_of c.args.streams.now.out)) (g.W.Write.contents (inner_of answered.new.streams.out)) answered.result)
     (c.in-Ok-with_local_views.ensures.opening.graph ∙ c.in-Ok.ensures.ok) answered.ensures.text
+
+pub returns-in-Ok-with_local_views-clause-counts : goal.returns-in-Ok-with_local_views-clause-counts
+returns-in-Ok-with_local_views-clause-counts g c =
+    let answered = c.respond_on-in-Ok-with_local_views in
+    subst (λ (graph : GraphValue). ReportsFor c.args.options.stats graph c.args.epochs.now (g.E.Write.contents c.args.streams.now.err) (g.E.Write.contents answered.new.streams.err)) c.in-Ok.ensures.ok
+    (reported_for c.args.options.stats c.in-Ok-of.report c.in-Ok.graph.value _ c.in-Ok-with_local_views.board.shown c.args.epochs.now _ _ c.in-Ok-of.ensures c.in-Ok-with_local_views.ensures.opening answered.ensures.counts)

@@ -1,8 +1,12 @@
+use Rattle.std.proofs.Common.{◌≡◌, ◌∙◌, length, sym, ap}
+use Rattle.std.proofs.lemmas.List.{length-map}
+use Rattle.record_core.specs.Inputs.{input_of}
 use Rattle.graph.specs.Shown.{shown_graph, shown_inputs, shown_names}
 use Rattle.collector.specs.ReadEpochs.{epoch_count, records_at}
 use Rattle.collector.specs.InputText.{IsReadFrom}
 use Rattle.console.proofs.RunEnds.{after_reading, responds_alike, run_ends}
 use Rattle.console.proofs.Heeding.{responds_heeds}
+use Rattle.console.proofs.Noting.{noted_after}
 use Rattle.console.proofs.Reporting.{reported_over}
 use Rattle.console.proofs.running.answer.Goals as goal
 
@@ -25,3 +29,9 @@ pub returns-clause-counts : goal.returns-clause-counts
 returns-clause-counts g c =
     reported_over c.args.options.stats c.args.query.now c.args.input.now c.in-Ok.graph c.in-Ok-epochs_of_text.epochs (g.E.Write.contents c.args.streams.now.err) (g.E.Write.contents c.respond.new.streams.err) c.in-Ok.ensures.graph
     c.in-Ok-epochs_of_text.ensures.read c.respond.ensures.counts
+
+pub returns-clause-early : goal.returns-clause-early
+returns-clause-early g c =
+    let many : length c.inputs.result.now ≡ length (shown_inputs c.in-Ok.graph) = sym (length-map c.inputs.result.now input_of) ∙ ap length c.inputs.ensures in
+    noted_after c.args.query.now c.args.input.now c.noted_early.result.items c.in-Ok.graph c.in-Ok-epochs_of_text.epochs (length c.inputs.result.now) c.respond.result c.in-Ok.ensures.graph c.in-Ok-epochs_of_text.ensures.read many
+    c.noted_early.ensures
