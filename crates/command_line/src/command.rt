@@ -1,7 +1,8 @@
 //! The commands of the line, read by `clap`.
 
 ghost use Rattle.std.specs.Prelude.{◌≡◌, map, option_map, IfErr, IfOk, IfSome, IsErrOf, codes, false};
-ghost use Rattle.clap.specs.Words.{app_of, first_of, found_of, new_app, one_of, rows_of, rule_of};
+ghost use Rattle.std.specs.Result.{IsOkAnd};
+ghost use Rattle.clap.specs.Words.{app_of, first_of, found_of, new_app, one_of, rows_of, rule_of, with_subcommand};
 ghost use Rattle.clap.specs.declared.builder.Command.TheViews.{out-Command as fields_of};
 ghost use Rattle.command_line.specs.Line.{AreAskedFor, AreStats, AsksTwice, Asks, Holds, HoldsAt, IsAskedDatabase, IsAskedFirst, IsAskedHeap, IsAskedInput, IsAskedQuery, IsFlag, IsForm, IsNumber};
 ghost use Rattle.command_line.specs.Line.{check_app, explain_app, first_epoch_rule, flag_rule, follow_app, format_app, graph_app, inline_rule, line_app, named_rule, queried, sql_app};
@@ -16,12 +17,8 @@ use crate::line_options::{GraphForm, Options};
 use crate::query::Query;
 use crate::script_form::ScriptForm;
 use crate::standard_input::is_input_twice;
-use crate::unknown_words::{
-    Misplaced, OutOfRange, Unknown, Unrecognized, misplaced_option, unknown_option,
-    unrecognized_word, word_out_of_range,
-};
+use crate::unknown_words::told;
 use crate::worker_count::Workers;
-use clap::error::ErrorKind;
 use clap::{Arg, ArgAction, ArgMatches, Command, Error, value_parser};
 use std::alloc::{AllocError, Global};
 use std::num::ParseIntError;
@@ -317,19 +314,32 @@ fn program<'a>(alloc: Global) -> Command<'a>
         .after_help(LAST_LINES)
 }
 
+/// A command with one more below it, where that could be made.
+fn with_command<'a>(
+    line: Command<'a>,
+    made: Result<Command<'a>, AllocError>,
+) -> Result<Command<'a>, AllocError>
+    ensures { IfOk result (λ r. IsOkAnd made.entry
+        (λ c. (fields_of c).has_globals ≡ false → app_of r ≡ with_subcommand (app_of line.entry) (app_of c).top)) }
+{
+    match made {
+        Ok(command) => line.subcommand(command),
+        Err(error) => Err(error),
+    }
+}
+
 pub fn line_command<'a>(alloc: Global) -> Result<Command<'a>, AllocError>
     ensures { IfOk result (λ c. app_of c ≡ line_app) }
 {
-    program(alloc)
-        .subcommand_required(true)
-        .subcommand(run_command(alloc)?)?
-        .subcommand(follow_command(alloc)?)?
-        .subcommand(check_command(alloc)?)?
-        .subcommand(graph_command(alloc)?)?
-        .subcommand(format_command(alloc)?)?
-        .subcommand(sql_command(alloc)?)?
-        .subcommand(replay_command(alloc)?)?
-        .subcommand(explain_command(alloc)?)?
+    let line = program(alloc).subcommand_required(true);
+    let line = with_command(line, run_command(alloc))?;
+    let line = with_command(line, follow_command(alloc))?;
+    let line = with_command(line, check_command(alloc))?;
+    let line = with_command(line, graph_command(alloc))?;
+    let line = with_command(line, format_command(alloc))?;
+    let line = with_command(line, sql_command(alloc))?;
+    let line = with_command(line, replay_command(alloc))?;
+    with_command(line, explain_command(alloc))?
         .subcommand(named(alloc, "encode", "Write CSV files as an input, by a schema"))?
         .subcommand(named(
             alloc,
@@ -518,10 +528,10 @@ fn form_of(found: &ArgMatches<'_>) -> Option<ScriptForm>
 {
     let database = database_of(found);
     let wrapped = flag_of(found, "wrapped");
-    match database.as_bytes() {
-        b"postgres" => Some(ScriptForm::Postgres { wrapped }),
-        b"spark" => Some(ScriptForm::Spark { wrapped }),
-        b"sqlite" => {
+    match database {
+        "postgres" => Some(ScriptForm::Postgres { wrapped }),
+        "spark" => Some(ScriptForm::Spark { wrapped }),
+        "sqlite" => {
             if wrapped {
                 None
             } else {
@@ -589,15 +599,15 @@ fn replay_options<'a>(found: &ArgMatches<'a>) -> Option<Options<'a>>
 fn options_at<'a>(name: &str, found: &ArgMatches<'a>) -> Option<Options<'a>>
     ensures { IfSome result (HoldsAt name.now (rows_of (found_of found.now))) }
 {
-    match name.as_bytes() {
-        b"run" => run_options(found),
-        b"follow" => follow_options(found),
-        b"replay" => replay_options(found),
-        b"check" => check_options(found),
-        b"graph" => graph_options(found),
-        b"format" => format_options(found),
-        b"sql" => sql_options(found),
-        b"explain" => Some(Options::Explain {
+    match name {
+        "run" => run_options(found),
+        "follow" => follow_options(found),
+        "replay" => replay_options(found),
+        "check" => check_options(found),
+        "graph" => graph_options(found),
+        "format" => format_options(found),
+        "sql" => sql_options(found),
+        "explain" => Some(Options::Explain {
             code: text_of(found, "CODE")?,
         }),
         _ => None,
@@ -637,69 +647,9 @@ fn line_options<'a>(
 fn refusal(alloc: Global, error: Error) -> LineFault
     ensures { IsOfWords result }
 {
-    match error.kind() {
-        ErrorKind::OutOfMemory => LineFault::NoMemory,
-        ErrorKind::UnknownArgument => unknown_argument(alloc, error),
-        ErrorKind::InvalidSubcommand => unrecognized_subcommand(alloc, error),
-        ErrorKind::ValueValidation => invalid_value(alloc, error),
-        _ => LineFault::Line(error),
-    }
-}
-
-/// The fault of a word that is no number in its option's range.
-fn invalid_value(alloc: Global, error: Error) -> LineFault
-    ensures { IsOfWords result }
-{
-    match word_out_of_range(alloc, &error) {
+    match told(alloc, &error) {
+        Ok(Some(fault)) => fault,
         Ok(None) => LineFault::Line(error),
-        Ok(Some(OutOfRange::Workers(word))) => LineFault::Workers { word },
-        Ok(Some(OutOfRange::Heap(word))) => LineFault::Heap { word },
-        Ok(Some(OutOfRange::FirstEpoch(word))) => LineFault::FirstEpoch { word },
-        Err(_) => LineFault::NoMemory,
-    }
-}
-
-/// The fault of a word that the command doesn't know.
-fn unknown_argument(alloc: Global, error: Error) -> LineFault
-    ensures { IsOfWords result }
-{
-    match misplaced_option(alloc, &error) {
-        Ok(None) => unknown_argument_of(alloc, error),
-        Ok(Some(Misplaced { option, commands })) => LineFault::Misplaced { option, commands },
-        Err(_) => LineFault::NoMemory,
-    }
-}
-
-/// The fault of a word that no command knows.
-fn unknown_argument_of(alloc: Global, error: Error) -> LineFault
-    ensures { IsOfWords result }
-{
-    match unknown_option(alloc, &error) {
-        Ok(None) => LineFault::Line(error),
-        Ok(
-            Some(
-                Unknown {
-                    option,
-                    command,
-                    options,
-                },
-            ),
-        ) => LineFault::Unknown {
-            option,
-            command,
-            options,
-        },
-        Err(_) => LineFault::NoMemory,
-    }
-}
-
-/// The fault of a first word that is no command.
-fn unrecognized_subcommand(alloc: Global, error: Error) -> LineFault
-    ensures { IsOfWords result }
-{
-    match unrecognized_word(alloc, &error) {
-        Ok(None) => LineFault::Line(error),
-        Ok(Some(Unrecognized { word, commands })) => LineFault::Unrecognized { word, commands },
         Err(_) => LineFault::NoMemory,
     }
 }

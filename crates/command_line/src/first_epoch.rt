@@ -3,7 +3,7 @@
 ghost use Rattle.std.specs.Prelude.{◌≡◌, ◌≤◌, IfNone, IfSome};
 
 /// The number of the first epoch, 0 to 9223372036854775807.
-#[derive(Clone, Copy, Debug, PartialEq, Eq)]
+#[derive(Clone, Copy)]
 pub struct FirstEpoch {
     number: u64,
     ghost few: { number ≤ 9223372036854775807 },

@@ -3,7 +3,7 @@
 ghost use Rattle.std.specs.Prelude.{◌≡◌, ◌≤◌, IfNone, IfSome};
 
 /// The size of a heap in bytes, 64 to 16777216.
-#[derive(Clone, Copy, Debug, PartialEq, Eq)]
+#[derive(Clone, Copy)]
 pub struct HeapSize {
     bytes: u32,
     ghost least: { 64 ≤ bytes },

@@ -7,7 +7,7 @@ use crate::script_form::ScriptForm;
 use crate::worker_count::Workers;
 
 /// What the words of the line ask for. Paths are kept as they were given. With `-e` QUERY is the query itself.
-#[derive(Clone, Copy, Debug, PartialEq, Eq)]
+#[derive(Clone, Copy)]
 pub enum Options<'a> {
     /// `loom run QUERY INPUT`, on one worker or `--workers N`; with `--watch` it says how many epochs have passed, with `--stats` what
     /// each vertex did, with `--dot` in a drawing; with `--end-mark` the input has to end with a line `end`; and a fault explained with
@@ -76,7 +76,7 @@ pub enum Options<'a> {
 }
 
 /// How a graph is written.
-#[derive(Clone, Copy, Debug, PartialEq, Eq)]
+#[derive(Clone, Copy)]
 pub enum GraphForm {
     /// A line for each vertex.
     Lines,

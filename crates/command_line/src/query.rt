@@ -1,7 +1,7 @@
 //! Where the text of a query is.
 
 /// The query of a line.
-#[derive(Clone, Copy, Debug, PartialEq, Eq)]
+#[derive(Clone, Copy)]
 pub enum Query<'a> {
     /// The text of the file with this path; `-` is standard input.
     File(&'a str),

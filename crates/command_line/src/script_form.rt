@@ -1,7 +1,7 @@
 //! How a script of SQL is to be written.
 
 /// The database that a script is for, and whether its numbers wrap at 64 bits. SQLite's can't.
-#[derive(Clone, Copy, Debug, PartialEq, Eq)]
+#[derive(Clone, Copy)]
 pub enum ScriptForm {
     Postgres { wrapped: bool },
     Sqlite,

@@ -1,39 +1,14 @@
 //! What is told of words that clap doesn't take: which commands take an option, which options and commands there are, and which number is out of
 //! its range.
 
+ghost use Rattle.std.specs.Prelude.{◌≡◌, IfOk, IfSome};
+ghost use Rattle.command_line.specs.Faults.{IsOfWords};
+
 use crate::command::line_command;
+use crate::line_fault::LineFault;
+use clap::error::ErrorKind;
 use clap::{Command, Error};
 use std::alloc::{AllocError, Global};
-
-/// An option, without its `--`, and the commands that take it.
-#[derive(Drop)]
-pub struct Misplaced {
-    pub option: String,
-    pub commands: String,
-}
-
-/// An option that no command takes, as it was written; the command, and the options that it takes.
-#[derive(Drop)]
-pub struct Unknown {
-    pub option: String,
-    pub command: String,
-    pub options: String,
-}
-
-/// A word that is no command, and the commands.
-#[derive(Drop)]
-pub struct Unrecognized {
-    pub word: String,
-    pub commands: String,
-}
-
-/// A word that is no number in the range of its option.
-#[derive(Drop)]
-pub enum OutOfRange {
-    Workers(String),
-    Heap(String),
-    FirstEpoch(String),
-}
 
 /// The text between two others, of which the first is at the beginning.
 fn between<'a>(text: &'a str, before: &str, after: &str) -> Option<&'a str> {
@@ -63,13 +38,46 @@ fn is_taken(command: &Command<'_>, option: &str) -> bool {
 }
 
 /// The names of the commands that take an option.
-fn owners<'a>(alloc: Global, option: &str) -> Result<Vec<&'a str>, AllocError> {
-    let line = line_command(alloc)?;
+fn owners<'a>(alloc: Global, line: &Command<'a>, option: &str) -> Result<Vec<&'a str>, AllocError> {
     let mut names = Vec::new(alloc);
     for command in line.get_subcommands() {
         if is_taken(command, option) {
             names.push(command.get_name())?;
         }
+    }
+    Ok(names)
+}
+
+/// Puts the options of a command behind others.
+fn push_options<'a>(options: &mut Vec<&'a str>, command: &Command<'a>) -> Result<(), AllocError> {
+    for arg in command.get_arguments() {
+        if let Some(option) = arg.get_long() {
+            options.push(option)?;
+        }
+    }
+    Ok(())
+}
+
+/// The options of a command, by its name.
+fn options_of<'a>(
+    alloc: Global,
+    line: &Command<'a>,
+    command: &str,
+) -> Result<Vec<&'a str>, AllocError> {
+    let mut options = Vec::new(alloc);
+    for known in line.get_subcommands() {
+        if known.get_name() == command {
+            push_options(&mut options, known)?;
+        }
+    }
+    Ok(options)
+}
+
+/// The names of the commands.
+fn command_names<'a>(alloc: Global, line: &Command<'a>) -> Result<Vec<&'a str>, AllocError> {
+    let mut names = Vec::new(alloc);
+    for command in line.get_subcommands() {
+        names.push(command.get_name())?;
     }
     Ok(names)
 }
@@ -90,98 +98,138 @@ fn listed(alloc: Global, before: &str, names: &[&str]) -> Result<String, AllocEr
     Ok(text)
 }
 
-/// The option that an error of clap's is about, if other commands take it.
-pub fn misplaced_option(alloc: Global, error: &Error) -> Result<Option<Misplaced>, AllocError> {
-    let text = format!(in alloc; "{error}")?;
-    let Some(option) = unexpected_option(text.as_str()) else {
-        return Ok(None);
-    };
-    let owners = owners(alloc, option)?;
-    if owners.is_empty() {
-        return Ok(None);
-    }
-    Ok(Some(Misplaced {
-        option: String::from_str(alloc, option)?,
-        commands: listed(alloc, "loom ", owners.as_slice())?,
+/// The fault of an option that the command doesn't take, and these do.
+fn misplaced_option(
+    alloc: Global,
+    option: &str,
+    owners: &[&str],
+) -> Result<Option<LineFault>, AllocError>
+    ensures { IfOk result (λ told. IfSome told IsOfWords) }
+{
+    let option = String::from_str(alloc, option)?;
+    let commands = listed(alloc, "loom ", owners)?;
+    Ok(Some(LineFault::Misplaced { option, commands }))
+}
+
+/// The fault of an option that no command takes, as clap names it, and the options of the command.
+fn option_of_none(
+    alloc: Global,
+    option: &str,
+    command: &str,
+    options: &[&str],
+) -> Result<Option<LineFault>, AllocError>
+    ensures { IfOk result (λ told. IfSome told IsOfWords) }
+{
+    let option = format!(in alloc; "-{option}")?;
+    let command = String::from_str(alloc, command)?;
+    let options = listed(alloc, "--", options)?;
+    Ok(Some(LineFault::Unknown {
+        option,
+        command,
+        options,
     }))
 }
 
-/// The options of a command, by its name.
-fn options_of<'a>(alloc: Global, command: &str) -> Result<Vec<&'a str>, AllocError> {
-    let line = line_command(alloc)?;
-    let mut options = Vec::new(alloc);
-    for known in line.get_subcommands() {
-        if known.get_name() == command {
-            for arg in known.get_arguments() {
-                if let Some(option) = arg.get_long() {
-                    options.push(option)?;
-                }
-            }
-        }
-    }
-    Ok(options)
-}
-
-/// The option that an error of clap's is about, if no option of its command is similar.
-pub fn unknown_option(alloc: Global, error: &Error) -> Result<Option<Unknown>, AllocError> {
-    let text = format!(in alloc; "{error}")?;
-    let text = text.as_str();
+/// The same, by the text of clap's error, if no option of the command is similar.
+fn unknown_option(
+    alloc: Global,
+    line: &Command<'_>,
+    text: &str,
+) -> Result<Option<LineFault>, AllocError>
+    ensures { IfOk result (λ told. IfSome told IsOfWords) }
+{
     let Some(option) = between(text, "error: unexpected argument '-", "' found") else {
         return Ok(None);
     };
     let Some(command) = used_command(text) else {
         return Ok(None);
     };
-    let options = options_of(alloc, command)?;
+    let options = options_of(alloc, line, command)?;
     if options.is_empty() || text.contains("a similar argument exists") {
         return Ok(None);
     }
-    Ok(Some(Unknown {
-        option: format!(in alloc; "-{option}")?,
-        command: String::from_str(alloc, command)?,
-        options: listed(alloc, "--", options.as_slice())?,
-    }))
+    option_of_none(alloc, option, command, options.as_slice())
 }
 
-/// The names of the commands.
-fn command_names<'a>(alloc: Global) -> Result<Vec<&'a str>, AllocError> {
-    let line = line_command(alloc)?;
-    let mut names = Vec::new(alloc);
-    for command in line.get_subcommands() {
-        names.push(command.get_name())?;
+/// The fault of a word that the command doesn't know.
+fn unknown_argument(
+    alloc: Global,
+    line: &Command<'_>,
+    text: &str,
+) -> Result<Option<LineFault>, AllocError>
+    ensures { IfOk result (λ told. IfSome told IsOfWords) }
+{
+    if let Some(option) = unexpected_option(text) {
+        let owners = owners(alloc, line, option)?;
+        if !owners.is_empty() {
+            return misplaced_option(alloc, option, owners.as_slice());
+        }
     }
-    Ok(names)
+    unknown_option(alloc, line, text)
 }
 
-/// The word that an error of clap's is about, if it is no command and no command is similar.
-pub fn unrecognized_word(alloc: Global, error: &Error) -> Result<Option<Unrecognized>, AllocError> {
-    let text = format!(in alloc; "{error}")?;
-    let text = text.as_str();
+/// The fault of a first word that is no command, if no command is similar.
+fn unrecognized_word(
+    alloc: Global,
+    line: &Command<'_>,
+    text: &str,
+) -> Result<Option<LineFault>, AllocError>
+    ensures { IfOk result (λ told. IfSome told IsOfWords) }
+{
     let Some(word) = between(text, "error: unrecognized subcommand '", "'\n") else {
         return Ok(None);
     };
     if text.contains("tip:") {
         return Ok(None);
     }
-    Ok(Some(Unrecognized {
-        word: String::from_str(alloc, word)?,
-        commands: listed(alloc, "loom ", command_names(alloc)?.as_slice())?,
-    }))
+    let word = String::from_str(alloc, word)?;
+    let commands = listed(alloc, "loom ", command_names(alloc, line)?.as_slice())?;
+    Ok(Some(LineFault::Unrecognized { word, commands }))
 }
 
-/// The word that an error of clap's is about, if it isn't in its option's range.
-pub fn word_out_of_range(alloc: Global, error: &Error) -> Result<Option<OutOfRange>, AllocError> {
-    let text = format!(in alloc; "{error}")?;
-    let text = text.as_str();
+/// The fault of a word that isn't in its option's range.
+fn word_out_of_range(alloc: Global, text: &str) -> Result<Option<LineFault>, AllocError>
+    ensures { IfOk result (λ told. IfSome told IsOfWords) }
+{
     let before = "error: invalid value '";
     if let Some(word) = between(text, before, "' for '--workers <N>': ") {
-        return Ok(Some(OutOfRange::Workers(String::from_str(alloc, word)?)));
+        let word = String::from_str(alloc, word)?;
+        return Ok(Some(LineFault::Workers { word }));
     }
     if let Some(word) = between(text, before, "' for '--heap <BYTES>': ") {
-        return Ok(Some(OutOfRange::Heap(String::from_str(alloc, word)?)));
+        let word = String::from_str(alloc, word)?;
+        return Ok(Some(LineFault::Heap { word }));
     }
     if let Some(word) = between(text, before, "' for '--first-epoch <E>': ") {
-        return Ok(Some(OutOfRange::FirstEpoch(String::from_str(alloc, word)?)));
+        let word = String::from_str(alloc, word)?;
+        return Ok(Some(LineFault::FirstEpoch { word }));
     }
     Ok(None)
+}
+
+/// The fault of a word that isn't taken, by the kind and the text of clap's error.
+fn told_of(alloc: Global, kind: ErrorKind, text: &str) -> Result<Option<LineFault>, AllocError>
+    ensures { IfOk result (λ told. IfSome told IsOfWords) }
+{
+    match kind {
+        ErrorKind::ValueValidation => word_out_of_range(alloc, text),
+        ErrorKind::UnknownArgument => unknown_argument(alloc, &line_command(alloc)?, text),
+        ErrorKind::InvalidSubcommand => unrecognized_word(alloc, &line_command(alloc)?, text),
+        _ => Ok(None),
+    }
+}
+
+/// The fault of words that clap refuses, where more is told of it than clap's error shows.
+pub fn told(alloc: Global, error: &Error) -> Result<Option<LineFault>, AllocError>
+    ensures { IfOk result (λ told. IfSome told IsOfWords) }
+{
+    let kind = error.kind();
+    match kind {
+        ErrorKind::OutOfMemory => Ok(Some(LineFault::NoMemory)),
+        ErrorKind::ValueValidation | ErrorKind::UnknownArgument | ErrorKind::InvalidSubcommand => {
+            let text = format!(in alloc; "{error}")?;
+            told_of(alloc, kind, text.as_str())
+        }
+        _ => Ok(None),
+    }
 }

@@ -2,6 +2,7 @@ use Rattle.std.proofs.Common.{ap, ap₂, ◌∙◌, true}
 use Rattle.std.proofs.lemmas.Result.{IfOk-weaker}
 use Rattle.clap.specs.Simple.{app_of_fields}
 use Rattle.clap.specs.Words.{App, Shape, with_subcommand}
+use Rattle.command_line.proofs.Adding.{added}
 use Rattle.command_line.proofs.command.line_command.Goals as goal
 
 abbrev requiring : App → App
@@ -12,15 +13,15 @@ top_of a = a.top
 
 pub returns : goal.returns
 returns c =
-    let top = ap app_of_fields c.subcommand_required.ensures ∙ ap requiring c.program.ensures.app in
-    let one = c.in_ok-subcommand.ensures.shape c.in_ok-run_command.ensures.local ∙ ap₂ with_subcommand top (ap top_of c.in_ok-run_command.ensures.app) in
-    let two = c.in_ok-subcommand-2.ensures.shape c.in_ok-follow_command.ensures.local ∙ ap₂ with_subcommand one (ap top_of c.in_ok-follow_command.ensures.app) in
-    let three = c.in_ok-subcommand-3.ensures.shape c.in_ok-check_command.ensures.local ∙ ap₂ with_subcommand two (ap top_of c.in_ok-check_command.ensures.app) in
-    let four = c.in_ok-subcommand-4.ensures.shape c.in_ok-graph_command.ensures.local ∙ ap₂ with_subcommand three (ap top_of c.in_ok-graph_command.ensures.app) in
-    let five = c.in_ok-subcommand-5.ensures.shape c.in_ok-format_command.ensures.local ∙ ap₂ with_subcommand four (ap top_of c.in_ok-format_command.ensures.app) in
-    let six = c.in_ok-subcommand-6.ensures.shape c.in_ok-sql_command.ensures.local ∙ ap₂ with_subcommand five (ap top_of c.in_ok-sql_command.ensures.app) in
-    let seven = c.in_ok-subcommand-7.ensures.shape c.in_ok-replay_command.ensures.local ∙ ap₂ with_subcommand six (ap top_of c.in_ok-replay_command.ensures.app) in
-    let eight = c.in_ok-subcommand-8.ensures.shape c.in_ok-explain_command.ensures.local ∙ ap₂ with_subcommand seven (ap top_of c.in_ok-explain_command.ensures.app) in
-    let nine = c.in_ok-subcommand-9.ensures.shape c.named.ensures.local ∙ ap₂ with_subcommand eight (ap top_of c.named.ensures.app) in
-    let ten = c.in_ok-subcommand-10.ensures.shape c.named-2.ensures.local ∙ ap₂ with_subcommand nine (ap top_of c.named-2.ensures.app) in
-    IfOk-weaker c.subcommand-11.result _ _ (λ r h. h.shape c.named-3.ensures.local ∙ ap₂ with_subcommand ten (ap top_of c.named-3.ensures.app)) c.subcommand-11.ensures
+    let top = ap app_of_fields c.subcommand_required-line.ensures ∙ ap requiring c.program.ensures.app in
+    let one = added c.run_command.result _ _ _ _ top c.run_command.ensures.app c.run_command.ensures.local c.in_ok-line.ensures in
+    let two = added c.follow_command.result _ _ _ _ one c.follow_command.ensures.app c.follow_command.ensures.local c.in_ok-line-2.ensures in
+    let three = added c.check_command.result _ _ _ _ two c.check_command.ensures.app c.check_command.ensures.local c.in_ok-line-3.ensures in
+    let four = added c.graph_command.result _ _ _ _ three c.graph_command.ensures.app c.graph_command.ensures.local c.in_ok-line-4.ensures in
+    let five = added c.format_command.result _ _ _ _ four c.format_command.ensures.app c.format_command.ensures.local c.in_ok-line-5.ensures in
+    let six = added c.sql_command.result _ _ _ _ five c.sql_command.ensures.app c.sql_command.ensures.local c.in_ok-line-6.ensures in
+    let seven = added c.replay_command.result _ _ _ _ six c.replay_command.ensures.app c.replay_command.ensures.local c.in_ok-line-7.ensures in
+    let eight = added c.explain_command.result _ _ _ _ seven c.explain_command.ensures.app c.explain_command.ensures.local c.in_ok-with_command.ensures in
+    let nine = c.in_ok-subcommand.ensures.shape c.named.ensures.local ∙ ap₂ with_subcommand eight (ap top_of c.named.ensures.app) in
+    let ten = c.in_ok-subcommand-2.ensures.shape c.named-2.ensures.local ∙ ap₂ with_subcommand nine (ap top_of c.named-2.ensures.app) in
+    IfOk-weaker c.subcommand-3.result _ _ (λ r h. h.shape c.named-3.ensures.local ∙ ap₂ with_subcommand ten (ap top_of c.named-3.ensures.app)) c.subcommand-3.ensures
