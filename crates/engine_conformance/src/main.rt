@@ -15,6 +15,7 @@ mod paths;
 mod routes;
 mod set;
 mod station;
+mod steps;
 mod texts;
 mod times;
 mod trackers;
@@ -30,6 +31,7 @@ use crate::paths::new_paths;
 use crate::routes::Routes;
 use crate::set::new_set;
 use crate::station::new_station;
+use crate::steps::Steps;
 use crate::texts::named;
 use crate::trackers::new_trackers;
 use pages::{Blocks, all_hold, call_of, compared, play_on};
@@ -69,6 +71,7 @@ fn right_lines_about(
         "mailbox" => play_on(rt, first, Ok(new_mailbox(alloc)), lines),
         "records" => play_on(rt, first, Ok(Records), lines),
         "routes" => play_on(rt, first, Ok(Routes), lines),
+        "times" => play_on(rt, first, Ok(Steps), lines),
         "paths" => play_on(rt, first, named(new_paths(alloc, rest)), lines),
         "board" => play_on(rt, first, named(new_board(alloc, rest)), lines),
         "board-plain" => play_on(rt, first, named(new_plain_board(alloc, rest)), lines),
