@@ -16,7 +16,7 @@ _loom() {
         words=$commands
     elif [[ $word == -* ]]; then
         case ${COMP_WORDS[1]} in
-        run) words="--workers --watch --stats --dot --end-mark --explain --inline --help" ;;
+        run) words="--workers --watch --stats --dot --end-mark --schema --dictionary --output --explain --inline --help" ;;
         follow) words="--workers --first-epoch --end-mark --explain --inline --help" ;;
         replay) words="--workers --views --explain --inline --help" ;;
         check) words="--heap --explain --inline --help" ;;

@@ -1,6 +1,6 @@
 # Deliberate mistakes: no command `format`, a command `walk`, no `run --dot`, and an option `follow --watch`.
     local commands="run follow replay check graph sql encode decode kinds explain help walk"
-        run) words="--workers --watch --stats --end-mark --explain --inline --help" ;;
+        run) words="--workers --watch --stats --end-mark --schema --dictionary --output --explain --inline --help" ;;
         follow) words="--workers --watch --first-epoch --end-mark --explain --inline --help" ;;
         replay) words="--workers --views --explain --inline --help" ;;
         check) words="--heap --explain --inline --help" ;;

@@ -7,6 +7,7 @@ use std::io::{Read, Write};
 use std::sync::Wait;
 use std::thread::Threads;
 use table_commands::{Drafts, answer_tables, is_of_tables};
+use table_runs::{answer_table_run, is_table_run};
 
 /// How often a run is repeated with each other number of workers.
 const TIMES: usize = 20;
@@ -91,6 +92,27 @@ fn tables_print<'a>(
     })
 }
 
+/// What the program prints that is called with these words of `run --schema`.
+fn table_run_prints<'a>(
+    rt: &'a HostRuntime,
+    threads: &(impl Threads + Wait + Sync),
+    piped: Option<&'a [u8]>,
+    words: &'a [&'a str],
+) -> io::Result<Printed> {
+    let page = Page {
+        disk: Disk::new(rt),
+        piped,
+    };
+    let mut out = Watched::new(Vec::new(rt.alloc()));
+    let mut err = Vec::new(rt.alloc());
+    let status = answer_table_run(threads, rt.alloc(), &page, &page, words, &mut out, &mut err);
+    Ok(Printed {
+        status,
+        out: out.into_inner(),
+        err,
+    })
+}
+
 /// What the program prints that is called with these words, the first of which is its own name.
 fn prints(
     rt: &HostRuntime,
@@ -100,6 +122,9 @@ fn prints(
 ) -> io::Result<Printed> {
     if is_of_tables(words) {
         return tables_print(rt, piped, words);
+    }
+    if is_table_run(words) {
+        return table_run_prints(rt, threads, piped, words);
     }
     let page = Page {
         disk: Disk::new(rt),
@@ -178,7 +203,7 @@ fn is_steady(
 fn asks_more(words: &[&str]) -> bool {
     let is_run = words.get(1).copied() == Some("run");
     words.iter().any(|word| {
-        word.starts_with("--w") || word.starts_with("--s") || is_run && *word == "--dot"
+        word.starts_with("--w") || word.starts_with("--stats") || is_run && *word == "--dot"
     })
 }
 

@@ -18,7 +18,8 @@ use crate::answers::help_of;
 use crate::explanations::{has_table, is_explained, rows};
 use crate::lines::printed;
 use crate::options::{
-    Listed, commands_of, completed, described, lacking, options_of, to_complete, to_describe,
+    Listed, add_options, commands_of, completed, described, lacking, options_of, to_complete,
+    to_describe,
 };
 use crate::sessions::{Session, sessions};
 use refusals::{Explanation, explanation_of};
@@ -118,7 +119,15 @@ fn lists(rt: &HostRuntime, threads: &(impl Threads + Wait + Sync), path: &str) -
     let page = fs::read_to_string(rt, path)?;
     let own = help_of(rt, threads, &["loom", "--help"])?;
     let helps = helps_of(rt, threads, own.as_str())?;
-    is_listed(rt, path, page.as_str(), own.as_str(), helps.as_slice())
+    let of_tables = help_of(rt, threads, &["loom", "run", "--schema", "-", "--help"])?;
+    is_listed(
+        rt,
+        path,
+        page.as_str(),
+        own.as_str(),
+        helps.as_slice(),
+        of_tables.as_str(),
+    )
 }
 
 /// The help of each command.
@@ -135,18 +144,22 @@ fn helps_of(
     Ok(helps)
 }
 
-/// Whether a page lists the commands and options of these helps, the program's own and those of its commands.
+/// Whether a page lists the commands and options of these helps: the program's own, those of its commands, and that of `run --schema`.
 fn is_listed(
     rt: &HostRuntime,
     path: &str,
     page: &str,
     own: &str,
     helps: &[String],
+    of_tables: &str,
 ) -> io::Result<bool> {
     let alloc = rt.alloc();
     let mut help = Vec::new(alloc);
     for (command, text) in commands_of(alloc, own)?.into_iter().zip(helps) {
-        let options = options_of(alloc, text.as_str())?;
+        let mut options = options_of(alloc, text.as_str())?;
+        if command == "run" {
+            add_options(&mut options, options_of(alloc, of_tables)?)?;
+        }
         help.push(Listed { command, options })?;
     }
     let (wanted, found) = if path.ends_with(".bash") {

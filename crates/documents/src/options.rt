@@ -82,6 +82,19 @@ pub fn options_of<'a>(alloc: Global, help: &'a str) -> Result<Vec<Forms<'a>>, Al
     Ok(options)
 }
 
+/// Appends the options that aren't there.
+pub fn add_options<'a>(
+    options: &mut Vec<Forms<'a>>,
+    others: Vec<Forms<'a>>,
+) -> Result<(), AllocError> {
+    for other in others {
+        if !options.iter().any(|option| option.long() == other.long()) {
+            options.push(other)?;
+        }
+    }
+    Ok(())
+}
+
 /// Appends `COMMAND` or `COMMAND OPTION`.
 fn push_entry(
     alloc: Global,
@@ -161,17 +174,21 @@ fn push_forms(
     }
 }
 
-/// What the manual page lists: in the synopsis lines `.Cm COMMAND` and `.Op Fl OPTION`, and lines `.It Fl OPTION` or `.It Fl OPTION , Fl OPTION`.
+/// What the manual page lists: in the synopsis, after `.Nm`, lines `.Cm COMMAND`, `.Fl OPTION` and `.Op Fl OPTION`; and lines `.It Fl OPTION` or `.It Fl OPTION , Fl OPTION`.
 /// The option `--build` is the script's own.
 pub fn described(alloc: Global, page: &str) -> Result<Vec<String>, AllocError> {
     let mut entries = Vec::new(alloc);
     let mut command = String::new(alloc);
     for line in before(page, ".Sh DESCRIPTION").lines() {
+        if line == ".Nm" {
+            command = String::new(alloc);
+        }
         if let Some(name) = line.strip_prefix(".Cm ") {
             command = format!(in alloc; "{name}")?;
             push_entry(alloc, &mut entries, name, "")?;
         }
-        if let Some(option) = line.strip_prefix(".Op Fl ") {
+        let option = line.strip_prefix(".Op Fl ");
+        if let Some(option) = option.or(line.strip_prefix(".Fl ")) {
             push_flag(alloc, &mut entries, command.as_str(), option)?;
         }
     }

@@ -1,5 +1,5 @@
-//! The program `loom`: words, files, exit status. What it answers is `console`'s, and `table_commands`' for CSV files; only whether standard error is a
-//! terminal is asked here.
+//! The program `loom`: words, files, exit status. What it answers is `console`'s, and for CSV files `table_commands`' and `table_runs`'; only whether
+//! standard error is a terminal is asked here.
 #![tactic(auto)]
 
 ghost use Rattle.std.specs.Prelude.{None, Some, map};
@@ -16,6 +16,7 @@ use std::sync::Wait;
 use std::thread::Threads;
 use std::{env, io};
 use table_commands::{DiskDrafts, answer_tables, is_of_tables};
+use table_runs::{answer_table_run, is_table_run};
 
 /// The words of the line, the first of which is the program's own.
 fn words_given(rt: &HostRuntime) -> Result<Vec<String>, LineFault> {
@@ -61,7 +62,24 @@ fn answer_tables_here(rt: &HostRuntime, words: &[&str]) -> u8 {
     answer_tables(rt.alloc(), &disk, &drafts, words, &mut out, &mut err)
 }
 
-/// The same over the system's files and streams.
+/// Answers a line of `run --schema` over the system's files and streams.
+fn run_tables_here(rt: &HostRuntime, threads: &(impl Threads + Wait + Sync), words: &[&str]) -> u8 {
+    let disk = Disk::new(rt);
+    let drafts = DiskDrafts::new(rt, rt.alloc());
+    let mut out = Watched::new(io::writer(rt));
+    let mut err = rt.stderr();
+    answer_table_run(
+        threads,
+        rt.alloc(),
+        &disk,
+        &drafts,
+        words,
+        &mut out,
+        &mut err,
+    )
+}
+
+/// Answers any other line over the system's files and streams.
 fn answer_here(rt: &HostRuntime, threads: &(impl Threads + Wait + Sync), words: &[&str]) -> u8 {
     let disk = Disk::new(rt);
     let mut streams = Streams {
@@ -93,6 +111,8 @@ fn answer_line(rt: &HostRuntime, threads: &(impl Threads + Wait + Sync)) -> Resu
     let words = words.as_slice();
     if is_of_tables(words) {
         Ok(answer_tables_here(rt, words))
+    } else if is_table_run(words) {
+        Ok(run_tables_here(rt, threads, words))
     } else {
         Ok(answer_here(rt, threads, words))
     }

@@ -1,6 +1,6 @@
 //! A line of words, answered.
 
-ghost use Rattle.std.specs.Prelude.{◌≡◌, ◌↔◌, ◌⊎◌, IfErr, IsTrue, codes, map, true};
+ghost use Rattle.std.specs.Prelude.{◌≡◌, ◌<◌, ◌↔◌, ◌⊎◌, IfErr, IsTrue, codes, map, true};
 ghost use Rattle.collector.specs.Watching.{inner_of};
 ghost use Rattle.table_commands.specs.Written.{IsOfTables, IsTablesWord, IsWriteFault};
 
@@ -87,8 +87,9 @@ fn obey<'a, S: Sources<'a>, D: Drafts, W: Write>(
 }
 
 /// Reports a fault by one write, and gives its status.
-fn report<E: Write>(alloc: Global, fault: &Fault<'_>, err: &mut E) -> u8
-    ensures { IsWriteFault fault.now → result ≡ 6 }
+pub fn report<E: Write>(alloc: Global, fault: &Fault<'_>, err: &mut E) -> u8
+    ensures write { IsWriteFault fault.now → result ≡ 6 }
+    ensures some { 0 < result }
 {
     let mut text = Vec::new(alloc);
     let _ = match fault.write_line(&mut text) {
@@ -99,7 +100,9 @@ fn report<E: Write>(alloc: Global, fault: &Fault<'_>, err: &mut E) -> u8
 }
 
 /// Reports why words are refused, and gives the status.
-fn refuse<E: Write>(error: LineError, err: &mut E) -> u8 {
+pub fn refuse<E: Write>(error: LineError, err: &mut E) -> u8
+    ensures { 0 < result }
+{
     match error {
         LineError::NoMemory => {
             let _ = writeln!(err, "out of memory");

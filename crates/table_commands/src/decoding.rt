@@ -1,17 +1,18 @@
 //! The command `decode`.
 
-ghost use Rattle.std.specs.Prelude.{◌≡◌, ◌⊎◌, IfErr};
+ghost use Rattle.std.specs.Prelude.{◌≡◌, ◌⊎◌, Contains, IfErr, IfSome, option_map};
 ghost use Rattle.collector.specs.Watching.{inner_of};
+ghost use Rattle.table_commands.specs.Read.{IsOutput};
 ghost use Rattle.table_commands.specs.Written.{IsWriteFault};
 
 use crate::fault::{Fault, WordFault, table_fault};
-use crate::files::{dictionary_of, has_epochs, needs_dictionary, read_file, schema_of};
+use crate::files::{dictionary_of, needs_dictionary, read_file, schema_of};
 use collector::{Sources, Watched, put};
 use csv_cells::Dictionary;
 use schema::{Schema, Table};
 use std::alloc::Global;
 use std::io::Write;
-use tables::decode;
+use tables::{decode, has_epochs};
 
 /// What `decode` is asked for.
 #[derive(Clone, Copy)]
@@ -22,13 +23,24 @@ pub struct Decoding<'a> {
     pub output: Option<&'a str>,
 }
 
+/// The table of that name.
+fn named_table<'s>(tables: &'s [Table], name: &[u8]) -> Option<&'s Table>
+    ensures { IfSome result (λ table. Contains tables.now table.now × (table.now.name.items ≡ name.now)) }
+{
+    for i in 0..tables.len() {
+        if tables[i].name.as_slice() == name {
+            return Some(&tables[i]);
+        }
+    }
+    None
+}
+
 /// The output that is asked for: by its name, or the only one.
-fn output_of<'s>(schema: &'s Schema, name: Option<&str>) -> Option<&'s Table> {
+pub fn output_of<'s>(schema: &'s Schema, name: Option<&str>) -> Option<&'s Table>
+    ensures { IfSome result (λ table. IsOutput schema.now.outputs.items (option_map (λ s. s.now) name.entry) table.now) }
+{
     match name {
-        Some(name) => schema
-            .outputs
-            .iter()
-            .find(|table| table.name.as_slice() == name.as_bytes()),
+        Some(name) => named_table(schema.outputs.as_slice(), name.as_bytes()),
         None if schema.outputs.len() == 1 => schema.outputs.first(),
         None => None,
     }
@@ -66,7 +78,7 @@ fn decoded<'a, S: Sources<'a>>(
     match decode(
         alloc,
         table,
-        has_epochs(&schema),
+        has_epochs(schema.inputs.as_slice()),
         &dictionary,
         answer.as_slice(),
     ) {

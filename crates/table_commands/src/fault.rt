@@ -1,6 +1,6 @@
 //! What goes wrong in `encode`, `decode` and `kinds`, its status, and its one line.
 
-ghost use Rattle.std.specs.Prelude.{◌≡◌};
+ghost use Rattle.std.specs.Prelude.{◌≡◌, ◌<◌};
 ghost use Rattle.table_commands.specs.Written.{IsWriteFault};
 
 use record_core::Span;
@@ -196,7 +196,8 @@ fn write_table<W: Write>(
 impl Fault<'_> {
     /// The exit status.
     pub fn status(&self) -> u8
-        ensures { IsWriteFault self.now → result ≡ 6 }
+        ensures write { IsWriteFault self.now → result ≡ 6 }
+        ensures some { 0 < result }
     {
         match self {
             Fault::Words(_) => 2,

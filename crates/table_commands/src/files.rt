@@ -1,9 +1,13 @@
 //! The texts of a command: its schema, its dictionary and its files.
 
+ghost use Rattle.std.specs.Prelude.{◌≡◌, ◌++◌, ◌∷◌, Contains, IfOk, IfSome, map};
+ghost use Rattle.collector.specs.Watching.{inner_of};
+ghost use Rattle.table_commands.specs.Read.{AreNamed, AreTexts, IsKnownAs, IsReadSchema};
+
 use crate::fault::{Fault, WordFault, schema_fault, table_fault};
 use collector::{ReadFault, Sources, Watched, open_named, read_all};
 use csv_cells::{Column, Dictionary, Kind};
-use schema::{Epochs, Schema, Table, read_schema};
+use schema::{Schema, Table, read_schema};
 use std::alloc::Global;
 use std::io::{ErrorKind, Read};
 use tables::read_dictionary;
@@ -13,7 +17,9 @@ pub fn read_file<'a, S: Sources<'a>>(
     alloc: Global,
     sources: &S,
     path: &'a str,
-) -> Result<Vec<u8>, Fault<'a>> {
+) -> Result<Vec<u8>, Fault<'a>>
+    ensures { IfOk result (λ v. IsKnownAs (S.content sources.now path.now) v.items) }
+{
     let mut opened = open_named(sources, path);
     read_text(alloc, path, &mut opened.text)
 }
@@ -23,7 +29,9 @@ fn read_text<'a, R: Read>(
     alloc: Global,
     path: &'a str,
     text: &mut Watched<R>,
-) -> Result<Vec<u8>, Fault<'a>> {
+) -> Result<Vec<u8>, Fault<'a>>
+    ensures { IfOk result (λ v. IsKnownAs (R.remaining (inner_of text.old)) v.items) }
+{
     match read_all(alloc, text) {
         Ok(bytes) => Ok(bytes),
         Err(ReadFault::NoMemory) => Err(Fault::NoMemory),
@@ -36,9 +44,14 @@ pub fn schema_of<'a, S: Sources<'a>>(
     alloc: Global,
     sources: &S,
     path: &'a str,
-) -> Result<Schema, Fault<'a>> {
+) -> Result<Schema, Fault<'a>>
+    ensures { IfOk result (IsReadSchema (S.content sources.now path.now)) }
+{
     let text = read_file(alloc, sources, path)?;
-    read_schema(alloc, text.as_slice()).map_err(|refusal| schema_fault(refusal))
+    match read_schema(alloc, text.as_slice()) {
+        Ok(schema) => Ok(schema),
+        Err(refusal) => Err(schema_fault(refusal)),
+    }
 }
 
 /// Whether a table has texts.
@@ -59,14 +72,6 @@ pub fn needs_dictionary(schema: &Schema) -> bool {
     !schema.constants.is_empty()
         || schema.inputs.iter().any(|table| has_texts(table))
         || schema.outputs.iter().any(|table| has_texts(table))
-}
-
-/// Whether an input has an epoch for each value of a column.
-pub fn has_epochs(schema: &Schema) -> bool {
-    schema
-        .inputs
-        .iter()
-        .any(|table| matches!(table.epochs, Epochs::By(_)))
 }
 
 /// The dictionary of a text.
@@ -95,20 +100,35 @@ pub fn dictionary_of<'a, S: Sources<'a>>(
     }
 }
 
+/// The file that a word `NAME=FILE` gives to the input of that name.
+fn path_of<'a>(word: &'a str, name: &[u8]) -> Option<&'a str>
+    ensures { IfSome result (λ path. word.now ≡ name.now ++ 61 ∷ path.now) }
+{
+    let (key, path) = word.split_once('=')?;
+    if key.as_bytes() == name {
+        Some(path)
+    } else {
+        None
+    }
+}
+
 /// The file of an input, by the words `NAME=FILE` of the line.
-fn file_of<'a>(words: &[&'a str], name: &[u8]) -> Result<&'a str, WordFault<'a>> {
+fn file_of<'a>(words: &[&'a str], name: &[u8]) -> Result<&'a str, WordFault<'a>>
+    ensures { IfOk result (λ path. Contains (map (λ s. s.now) words.now) (name.now ++ 61 ∷ path.now)) }
+{
     let mut found = None;
-    for word in words {
-        if let Some((key, path)) = word.split_once('=') {
-            if key.as_bytes() == name {
-                if found.is_some() {
-                    return Err(WordFault::Files);
-                }
-                found = Some(path);
+    for i in 0..words.len() {
+        if let Some(path) = path_of(words[i], name) {
+            if found.is_some() {
+                return Err(WordFault::Files);
             }
+            found = Some(path);
         }
     }
-    found.ok_or(WordFault::Files)
+    match found {
+        Some(path) => Ok(path),
+        None => Err(WordFault::Files),
+    }
 }
 
 /// Whether a word names an input of the schema.
@@ -127,18 +147,42 @@ pub fn paths_of<'a>(
     alloc: Global,
     schema: &Schema,
     words: &[&'a str],
-) -> Result<Vec<&'a str>, Fault<'a>> {
+) -> Result<Vec<&'a str>, Fault<'a>>
+    ensures { IfOk result (λ paths. AreNamed schema.now.inputs.items (map (λ s. s.now) words.now) (map (λ s. s.now) paths.items)) }
+{
     for word in words {
         if !names_input(schema, word) {
             return Err(Fault::Words(WordFault::NoTable(word)));
         }
     }
     let mut paths = Vec::new(alloc);
-    for table in &schema.inputs {
-        match file_of(words, &table.name) {
+    for i in 0..schema.inputs.len() {
+        match file_of(words, &schema.inputs[i].name) {
             Ok(path) => paths.push(path)?,
             Err(fault) => return Err(Fault::Words(fault)),
         }
     }
     Ok(paths)
+}
+
+/// The texts of the files, one after another.
+pub fn read_files<'a, S: Sources<'a>>(
+    alloc: Global,
+    sources: &S,
+    paths: &[&'a str],
+) -> Result<Vec<Vec<u8>>, Fault<'a>>
+    ensures { IfOk result (λ texts. AreTexts (S.content sources.now) (map (λ s. s.now) paths.now) (map (λ v. v.items) texts.items)) }
+{
+    let mut texts = Vec::new(alloc);
+    for i in 0..paths.len() {
+        texts.push(read_file(alloc, sources, paths[i])?)?;
+    }
+    Ok(texts)
+}
+
+/// Whether two of the paths are standard input.
+pub fn is_input_twice(paths: &[&str], others: &[&str]) -> bool {
+    let first = paths.iter().filter(|path| **path == "-").count();
+    let second = others.iter().filter(|path| **path == "-").count();
+    first > 1 || second > 1 || first == 1 && second == 1
 }

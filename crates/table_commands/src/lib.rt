@@ -10,8 +10,15 @@ mod drafts;
 mod encoding;
 mod fault;
 mod files;
+mod keeping;
 mod line;
 mod listing;
 
-pub use answering::{answer_tables, is_of_tables};
+pub use answering::{answer_tables, is_of_tables, refuse, report};
+pub use decoding::output_of;
 pub use drafts::{DiskDrafts, Draft, Drafts};
+pub use encoding::input_text;
+pub use fault::{Fault, WordFault, table_fault};
+pub use files::{dictionary_of, is_input_twice, paths_of, schema_of};
+pub use keeping::{begin_dictionary, grown_text, write_with};
+pub use line::{LineError, dictionary_arg, files_arg, output_arg};

@@ -40,11 +40,27 @@ impl From<AllocError> for LineError {
 }
 
 /// The option `--dictionary FILE`.
-fn dictionary_arg<'a>(alloc: Global) -> Arg<'a> {
+pub fn dictionary_arg<'a>(alloc: Global) -> Arg<'a> {
     Arg::new(alloc, "dictionary")
         .long("dictionary")
         .value_name("FILE")
         .help("The file that keeps the numbers of texts")
+}
+
+/// The option `--output NAME`.
+pub fn output_arg<'a>(alloc: Global) -> Arg<'a> {
+    Arg::new(alloc, "output")
+        .long("output")
+        .value_name("NAME")
+        .help("The output, if the schema has several")
+}
+
+/// The words of the inputs' files.
+pub fn files_arg<'a>(alloc: Global) -> Arg<'a> {
+    Arg::new(alloc, "NAME=FILE")
+        .required(true)
+        .num_args(1..)
+        .help("An input's name, =, and its CSV file; - is standard input")
 }
 
 /// The word of the schema.
@@ -59,24 +75,14 @@ fn encode_command<'a>(alloc: Global) -> Result<Command<'a>, AllocError> {
         .about("Write CSV files as an input, by a schema")
         .arg(dictionary_arg(alloc))?
         .arg(schema_arg(alloc))?
-        .arg(
-            Arg::new(alloc, "NAME=FILE")
-                .required(true)
-                .num_args(1..)
-                .help("An input's name, =, and its CSV file; - is standard input"),
-        )
+        .arg(files_arg(alloc))
 }
 
 fn decode_command<'a>(alloc: Global) -> Result<Command<'a>, AllocError> {
     Command::new(alloc, "decode")
         .about("Write an answer as a CSV file, by a schema")
         .arg(dictionary_arg(alloc))?
-        .arg(
-            Arg::new(alloc, "output")
-                .long("output")
-                .value_name("NAME")
-                .help("The output, if the schema has several"),
-        )?
+        .arg(output_arg(alloc))?
         .arg(schema_arg(alloc))?
         .arg(Arg::new(alloc, "ANSWER").help(
             "The file with the answer; without it, and with -, standard input",

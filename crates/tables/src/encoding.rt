@@ -134,7 +134,7 @@ fn encode_some(
 }
 
 /// Whether a table has an epoch for each value of a column.
-fn has_epochs(tables: &[Table]) -> bool
+pub fn has_epochs(tables: &[Table]) -> bool
     ensures { result ≡ list_any (λ table. has_own table.epochs) tables.now }
 {
     tables.iter().any(|table| has_own(table.epochs))

@@ -15,6 +15,6 @@ mod writing;
 
 pub use decoding::decode;
 pub use dictionary_file::{dictionary_text, law_read_again, read_dictionary};
-pub use encoding::encode;
+pub use encoding::{encode, has_epochs};
 pub use refusal::{EncodeRefusal, Fault, RecordFault, RowRefusal, TableRefusal};
 pub use rows::{Target, encode_rows};

@@ -1,0 +1,111 @@
+//! A line of words, answered.
+
+ghost use Rattle.std.specs.Prelude.{◌≡◌, ◌<◌, ◌⊎◌, true, codes, get_or, [], map};
+ghost use Rattle.collector.specs.Watching.{inner_of};
+ghost use Rattle.table_runs.specs.Runs.{IsDone};
+ghost use Rattle.table_runs.specs.declared.line.TableRun.{TableRun};
+
+use crate::fault::RunFault;
+use crate::line::{TableRun, read_words};
+use crate::running::run_tables;
+use collector::{Sources, Watched};
+use console::{Fault, Query, Texts};
+use diagnostics::{TextNames, explain_fault, write_path_hint, write_told};
+use std::alloc::Global;
+use std::io;
+use std::io::Write;
+use std::sync::Wait;
+use std::thread::Threads;
+use table_commands::{Drafts, refuse, report};
+
+/// Whether a line, whose first word is the program's own, is one of `run` with the option `--schema`.
+pub fn is_table_run(words: &[&str]) -> bool
+    ensures { result ≡ true → get_or (map (λ s. s.now) words.now) 1 [] ≡ codes "run" }
+{
+    match words {
+        [_, first, others @ ..] if *first == "run" => others
+            .iter()
+            .take_while(|word| **word != "--")
+            .any(|word| *word == "--schema" || word.starts_with("--schema=")),
+        _ => false,
+    }
+}
+
+/// The names of the texts that a fault is about.
+fn names_of<'a>(query: Query<'a>) -> TextNames<'a> {
+    let query = match query {
+        Query::File(path) => path,
+        Query::Inline(_) => "-e",
+    };
+    let input = "input";
+    TextNames { query, input }
+}
+
+/// Writes a fault's line, and what is wrong at its place where that is asked for.
+fn write_fault<W: Write>(
+    alloc: Global,
+    asked: &TableRun<'_>,
+    fault: &Fault,
+    texts: &Texts,
+    out: &mut W,
+) -> io::Result<()> {
+    let names = names_of(asked.query);
+    write_told(fault, names, texts, out)?;
+    if asked.explain {
+        explain_fault(alloc, fault, names, texts, out)?;
+        write_path_hint(fault, names.query, out)?;
+    }
+    Ok(())
+}
+
+/// Reports a fault of the query or the run by one write, and gives its status.
+fn report_run<E: Write>(
+    alloc: Global,
+    asked: &TableRun<'_>,
+    fault: &Fault,
+    texts: &Texts,
+    err: &mut E,
+) -> u8
+    ensures { 0 < result }
+{
+    let mut text = Vec::new(alloc);
+    let _ = match write_fault(alloc, asked, fault, texts, &mut text) {
+        Ok(()) => err.write_all(text.as_slice()),
+        Err(_) => write_told(fault, names_of(asked.query), texts, err),
+    };
+    fault.status()
+}
+
+/// Answers a line of `run --schema`, whose first word is the program's own, and gives the status: 0 done, 2 command line, 3 schema or query, 4 a file's
+/// text, 5 memory, a count or a thread, 6 file.
+pub fn answer_table_run<
+    'a,
+    R: Threads + Wait + Sync,
+    S: Sources<'a>,
+    D: Drafts,
+    W: Write,
+    E: Write,
+>(
+    rt: &R,
+    alloc: Global,
+    sources: &S,
+    drafts: &D,
+    words: &'a [&'a str],
+    out: &mut Watched<W>,
+    err: &mut E,
+) -> u8
+    ensures written { result ≡ 0 → (asked : TableRun) × IsDone (S.content sources.now) asked (W.contents (inner_of out.old)) (W.contents (inner_of out.new)) }
+    ensures quiet { ((result ≡ 0) ⊎ (result ≡ 6)) ⊎ (W.contents (inner_of out.new) ≡ W.contents (inner_of out.old)) }
+{
+    let asked = match read_words(alloc, words) {
+        Ok(Some(asked)) => asked,
+        Ok(None) => return 2,
+        Err(error) => return refuse(error, err),
+    };
+    let mut texts = Texts::new(alloc);
+    match run_tables(rt, alloc, sources, drafts, &asked, &mut texts, out) {
+        Ok(()) => 0,
+        Err(RunFault::Tables(fault)) => report(alloc, &fault, err),
+        Err(RunFault::Run(fault)) => report_run(alloc, &asked, &fault, &texts, err),
+    }
+}

@@ -1,0 +1,27 @@
+//! Why a run came to no CSV file.
+
+ghost use Rattle.std.specs.Prelude.{◌≡◌};
+ghost use Rattle.table_runs.specs.declared.fault.RunFault.TheVariants.{Run, Tables};
+
+/// What goes wrong with the tables, or with the query and the run.
+#[derive(Drop)]
+pub enum RunFault<'a> {
+    Tables(table_commands::Fault<'a>),
+    Run(console::Fault),
+}
+
+impl<'a> From<table_commands::Fault<'a>> for RunFault<'a> {
+    ghost from_gives = { λ fault made. made ≡ Tables fault };
+
+    fn from(fault: table_commands::Fault<'a>) -> RunFault<'a> {
+        RunFault::Tables(fault)
+    }
+}
+
+impl<'a> From<console::Fault> for RunFault<'a> {
+    ghost from_gives = { λ fault made. made ≡ Run fault };
+
+    fn from(fault: console::Fault) -> RunFault<'a> {
+        RunFault::Run(fault)
+    }
+}
