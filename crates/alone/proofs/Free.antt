@@ -1,5 +1,5 @@
 -- A worker is free again once its event is committed.
-use Rattle.std.proofs.Common.{◌≡◌, ◌<◌, ◌∙◌, ℕ, List, [], ◌∷◌, length, refl, sym, ap, subst, arith, Option, Some}
+use Rattle.std.proofs.Common.{◌≡◌, ◌<◌, ◌∙◌, ℕ, List, [], ◌∷◌, length, refl, sym, ap, subst, arith, Some}
 use Rattle.machine.specs.Step.{Step}
 use Rattle.machine.specs.World.{Event, Held, World}
 use Rattle.machine.proofs.Progress.{put_here}

@@ -1,7 +1,7 @@
 -- Each step of a worker leaves less work on a board.
 use Rattle.std.proofs.Common.{◌≡◌, ◌<◌, ◌≤◌, ℕ, List, [], ◌∷◌, length, refl, sym, ap, subst, arith, true}
 use Rattle.semantics.specs.Graph.{Graph}
-use Rattle.semantics.specs.Multiset.{Record, total}
+use Rattle.semantics.specs.Multiset.{total}
 use Rattle.graph.specs.Shown.{shown_graph}
 use Rattle.machine.specs.World.{Event, World, opening}
 use Rattle.machine.specs.Active.{message_pointstamp, request_pointstamp}

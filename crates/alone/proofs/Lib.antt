@@ -1,3 +1,4 @@
 pub mod Free
 pub mod Less
 pub mod Resting
+mod Sums

@@ -1,1 +1,3 @@
+pub mod Parts
+pub mod Received
 pub mod Rests

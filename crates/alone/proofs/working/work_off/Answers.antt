@@ -1,119 +1,31 @@
-use Rattle.std.proofs.Common.{◌≤◌, ◌∙◌, ap, arith, length, refl, subst, sym}
+use Rattle.std.proofs.Common.{◌∙◌, arith, refl}
 use Rattle.machine.specs.Step.{Step}
-use Rattle.board.specs.declared.board.Claimed.TheVariants as Claimed
-use Rattle.board.specs.Shown.{Shown}
-use Rattle.driver.proofs.Tallying.{stays_claim, stays_committed, stays_step, stays_then}
-use Rattle.alone.specs.Rests.{IsAtRest, IsFree}
-use Rattle.alone.proofs.Free.{committed_free, gathers_free, spoiled_free}
-use Rattle.alone.proofs.Less.{claims_less, claims_stopped, gathers_lead}
-use Rattle.alone.proofs.Resting.{at_rest, drained_passed_over, drained_rests, idle_passed_over, not_done}
+use Rattle.driver.proofs.Tallying.{stays_then}
+use Rattle.alone.proofs.Less.{claims_less}
 use Rattle.alone.proofs.working.work_off.Goals as goal
+
+pub events-init : goal.events-init
+events-init g c = record { graph = refl; rises = omega arith; free = λ free. free; counts = λ s is. is; received = omega arith }
 
 pub events-smaller : goal.events-smaller
 events-smaller g c =
-    let claims = c.in-Work.ensures.claims in
-    let ends = c.in-Ok.ensures.ends in
-    let p = c.in-Work.work.0 in
-    claims_less c.events.board.shown claims.0 c.claim.new.board.shown c.process.new.board.shown c.args.worker p c.law_run.ensures claims.1 claims.2.0 (Step.commit p.worker p.job.happening ends.1.0) tt ends.1.1
-
-pub returns-in-Err-clause-stopped : goal.returns-in-Err-clause-stopped
-returns-in-Err-clause-stopped g c = λ halted.
-    let claims = c.in-Work.ensures.claims in
-    let p = c.in-Work.work.0 in
-    claims_stopped c.events.board.shown claims.0 c.claim.new.board.shown c.process.new.board.shown c.args.worker p.worker p p.job.happening c.law_run.ensures claims.1 claims.2.0 c.in-Err.ensures.ends.1
-
-pub returns-in-Err-clause-passed : goal.returns-in-Err-clause-passed
-returns-in-Err-clause-passed g c = λ done one. absurd (not_done c.in-Err.fault c.from.result c.from.ensures done)
-
-pub returns-in-Err-clause-rests : goal.returns-in-Err-clause-rests
-returns-in-Err-clause-rests g c = λ done one. absurd (not_done c.in-Err.fault c.from.result c.from.ensures done)
-
-pub returns-in-Idle-clause-passed : goal.returns-in-Idle-clause-passed
-returns-in-Idle-clause-passed g c = λ done one.
-    let claims = c.in-Idle.ensures.claims in
-    let m = claims.2 in
-    let r = (gathers_lead c.args.worker c.events.board.shown claims.0 c.law_run.ensures claims.1).reached in
-    idle_passed_over claims.0 c.claim.new.board.shown c.args.worker r m.0 m.1 one m.2 m.3 m.5
-
-pub returns-in-Idle-clause-rests : goal.returns-in-Idle-clause-rests
-returns-in-Idle-clause-rests g c = λ done one.
-    let claims = c.in-Idle.ensures.claims in
-    let m = claims.2 in
-    subst (λ (x : Shown). IsAtRest x) (sym m.5) (at_rest claims.0 c.args.worker m.1 (sym (ap (λ (x : Shown). length x.sides) m.5) ∙ one) m.2 m.3)
-
-pub returns-in-Drained-clause-passed : goal.returns-in-Drained-clause-passed
-returns-in-Drained-clause-passed g c = λ done one.
-    let claims = c.in-Drained.ensures.claims in
-    let m = claims.2 in
-    let r = (gathers_lead c.args.worker c.events.board.shown claims.0 c.law_run.ensures claims.1).reached in
-    drained_passed_over claims.0 c.claim.new.board.shown c.args.worker r m.0 m.1 one m.2 m.3
-
-pub returns-in-Drained-clause-rests : goal.returns-in-Drained-clause-rests
-returns-in-Drained-clause-rests g c = λ done one.
-    let claims = c.in-Drained.ensures.claims in
-    let m = claims.2 in
-    subst (λ (x : Shown). IsAtRest x) (sym m.3) (drained_rests claims.0 c.args.worker m.1 (sym (ap (λ (x : Shown). length x.sides) m.3) ∙ one) m.2)
+    let (u, t, p, out, gathers, hands, goes) = c.in-Partly.ensures.event in
+    claims_less c.events.board.shown u t c.work_once.new.board.shown c.args.worker p c.law_run.ensures gathers hands (Step.commit p.worker p.job.happening out) tt goes
 
 pub events-preserved : goal.events-preserved
 events-preserved g c =
-    let claims = c.in-Work.ensures.claims in
-    let ends = c.in-Ok.ensures.ends in
-    let p = c.in-Work.work.0 in (
-      c.in-Ok.ensures.graph ∙ c.in-Work.ensures.graph ∙ c.events.invariant.0,
-      (let a = c.events.invariant.1 in let b = c.in-Work.ensures.passed in let d = c.in-Ok.ensures.passed in omega (arith, a, b, d)),
-      λ free. committed_free c.events.board.shown claims.0 c.claim.new.board.shown c.process.new.board.shown c.args.worker p ends.1.0 c.law_run.ensures claims.1 claims.2.0 ends.1.1 (c.events.invariant.2 free),
-      stays_then c.args.board.now.shown c.claim.new.board.shown c.process.new.board.shown c.args.tally.now c.events.tally c.count.new.self
-          (stays_then c.args.board.now.shown c.events.board.shown c.claim.new.board.shown c.args.tally.now c.events.tally c.events.tally c.events.invariant.3
-          (stays_claim c.events.board.shown c.claim.new.board.shown c.args.worker (Claimed.Work c.in-Work.work) claims c.events.tally))
-          (stays_committed c.claim.new.board.shown c.process.new.board.shown c.events.tally p c.in-Ok.sent c.in-Ok.ensures.tells c.count.new.self c.count.ensures),
-    )
+    let inv = c.events.invariant in
+    let more = c.in-Partly.ensures in
+    record {
+      graph = more.graph ∙ inv.graph;
+      rises = (let a = inv.rises in let b = more.rises in omega (arith, a, b));
+      free = λ free. more.free (inv.free free);
+      counts = stays_then c.args.board.now.shown c.events.board.shown c.work_once.new.board.shown c.args.tally.now c.events.tally c.work_once.new.tally inv.counts more.counts;
+      received = (let a = inv.received in let b = more.received in omega (arith, a, b));
+    }
 
-pub returns-in-Err-clause-free : goal.returns-in-Err-clause-free
-returns-in-Err-clause-free g c = λ free. spoiled_free c.in-Err.fault c.from.result c.process.new.board.shown c.args.worker c.from.ensures
+pub returns-in-Off-clause-free : goal.returns-in-Off-clause-free
+returns-in-Off-clause-free g c = λ free. c.in-Off.ensures.free (c.events.invariant.free free)
 
-pub returns-in-Idle-clause-free : goal.returns-in-Idle-clause-free
-returns-in-Idle-clause-free g c = λ free.
-    let m = c.in-Idle.ensures.claims.2 in
-    subst (λ (x : Shown). IsFree x c.args.worker) (sym m.5) (m.1, m.2)
-
-pub returns-in-Drained-clause-free : goal.returns-in-Drained-clause-free
-returns-in-Drained-clause-free g c = λ free.
-    let m = c.in-Drained.ensures.claims.2 in
-    subst (λ (x : Shown). IsFree x c.args.worker) (sym m.3) (m.1, (m.2.idle c.args.worker m.1).place)
-
-pub returns-in-Busy-clause-free : goal.returns-in-Busy-clause-free
-returns-in-Busy-clause-free g c = λ free.
-    let claims = c.in-Busy.ensures.claims in
-    let there = gathers_free c.args.worker c.events.board.shown claims.0 c.law_run.ensures claims.1 (c.events.invariant.2 free) in
-    claims.2.1 there.0 there.1
-
-pub events-init : goal.events-init
-events-init g c = (refl, omega arith, λ free. free, λ s is. is)
-
-pub returns-in-Err-clause-counts : goal.returns-in-Err-clause-counts
-returns-in-Err-clause-counts g c =
-    let p = c.in-Work.work.0 in
-    stays_then c.args.board.now.shown c.claim.new.board.shown c.process.new.board.shown c.args.tally.now c.events.tally c.events.tally
-    (stays_then c.args.board.now.shown c.events.board.shown c.claim.new.board.shown c.args.tally.now c.events.tally c.events.tally c.events.invariant.3
-    (stays_claim c.events.board.shown c.claim.new.board.shown c.args.worker (Claimed.Work c.in-Work.work) c.in-Work.ensures.claims c.events.tally))
-    (stays_step c.claim.new.board.shown c.process.new.board.shown (Step.abandon p.worker p.job.happening) tt c.in-Err.ensures.ends.1 c.events.tally)
-
-pub returns-in-Idle-clause-counts : goal.returns-in-Idle-clause-counts
-returns-in-Idle-clause-counts g c =
-    stays_then c.args.board.now.shown c.events.board.shown c.claim.new.board.shown c.args.tally.now c.events.tally c.events.tally c.events.invariant.3
-    (stays_claim c.events.board.shown c.claim.new.board.shown c.args.worker Claimed.Idle c.in-Idle.ensures.claims c.events.tally)
-
-pub returns-in-Drained-clause-counts : goal.returns-in-Drained-clause-counts
-returns-in-Drained-clause-counts g c =
-    stays_then c.args.board.now.shown c.events.board.shown c.claim.new.board.shown c.args.tally.now c.events.tally c.events.tally c.events.invariant.3
-    (stays_claim c.events.board.shown c.claim.new.board.shown c.args.worker Claimed.Drained c.in-Drained.ensures.claims c.events.tally)
-
-pub returns-in-Stopped-clause-counts : goal.returns-in-Stopped-clause-counts
-returns-in-Stopped-clause-counts g c =
-    stays_then c.args.board.now.shown c.events.board.shown c.claim.new.board.shown c.args.tally.now c.events.tally c.events.tally c.events.invariant.3
-    (stays_claim c.events.board.shown c.claim.new.board.shown c.args.worker Claimed.Stopped c.in-Stopped.ensures.claims c.events.tally)
-
-pub returns-in-Busy-clause-counts : goal.returns-in-Busy-clause-counts
-returns-in-Busy-clause-counts g c =
-    stays_then c.args.board.now.shown c.events.board.shown c.claim.new.board.shown c.args.tally.now c.events.tally c.events.tally c.events.invariant.3
-    (stays_claim c.events.board.shown c.claim.new.board.shown c.args.worker Claimed.Busy c.in-Busy.ensures.claims c.events.tally)
+pub returns-in-Off-clause-counts : goal.returns-in-Off-clause-counts
+returns-in-Off-clause-counts g c = stays_then c.args.board.now.shown c.events.board.shown c.work_once.new.board.shown c.args.tally.now c.events.tally c.work_once.new.tally c.events.invariant.counts c.in-Off.ensures.counts

@@ -1,13 +1,19 @@
 use Rattle.std.proofs.Common.{◌≡◌, ◌≤◌}
 use Rattle.driver.specs.Tallies.{StaysTally}
+use Rattle.alone.specs.Received.{received_of}
 use Rattle.alone.specs.Rests.{IsFree}
 use Rattle.alone.proofs.Less.{left}
 use Rattle.alone.proofs.working.work_off.Given as goal
 
 abbrev pub invariant-events : goal.invariant-events
 invariant-events g l =
-    (l.board.shown.graph ≡ l.fn.board.shown.graph) × (l.fn.board.passed ≤ l.board.passed) × (IsFree l.fn.board.shown l.worker → IsFree l.board.shown l.worker)
-    × StaysTally l.fn.board.shown l.fn.tally l.board.shown l.tally
+    record {
+      graph : l.board.shown.graph ≡ l.fn.board.shown.graph;
+      rises : l.fn.board.passed ≤ l.board.passed;
+      free : IsFree l.fn.board.shown l.worker → IsFree l.board.shown l.worker;
+      counts : StaysTally l.fn.board.shown l.fn.tally l.board.shown l.tally;
+      received : received_of l.fn.tally ≤ received_of l.tally;
+    }
 
 abbrev pub decreases-events : goal.decreases-events
 decreases-events g l = left l.board.shown
