@@ -4,8 +4,10 @@ ghost use Rattle.std.specs.Prelude.{◌≡◌, ◌≤◌, ◌<◌, ℕ, [], IfOk
 ghost use Rattle.board.specs.Promises.{CountsPassed, IsDrained};
 ghost use Rattle.board.specs.Shown.{tables};
 ghost use Rattle.driver.specs.Tallies.{IsTally};
+ghost use Rattle.alone.specs.Received.{received_of};
 ghost use Rattle.execution.specs.Fed.{IsWorkedOff};
-ghost use Rattle.execution.specs.Told.{IsTold, Tells};
+ghost use Rattle.execution.specs.Told.{IsNear, IsTold, Tells, untold};
+ghost use Rattle.execution.specs.declared.watching.Progress.{Progress};
 
 use crate::notice::Notice;
 use crate::readings::is_fed;
@@ -15,6 +17,7 @@ use crate::task::Task;
 use crate::threads::{try_threads, work_off_all};
 use crate::unfinished::Unfinished;
 use crate::watching::{Observer, Watch, Watcher, fill};
+use alone::received;
 use collector::Epochs;
 use driver::law_inputs;
 use std::alloc::Global;
@@ -73,11 +76,12 @@ fn drive<
     requires first { start.board.shown ≡ J.first }
     requires mark { fresh.mark ≡ J.mark }
     requires begins { IsTally start.board.shown start.board.shown start.tally }
-    requires untold { watch.old.told ≡ 0 }
+    requires untold { watch.old.told ≡ untold }
     ensures graph { IfOk result (λ r. r.report.graph ≡ J.graph) }
     ensures drained { IfOk result (λ r. IsDrained r.report) }
     ensures counts { IfOk result (λ r. IsTally J.first r.report r.tally) }
-    ensures most { IfOk result (λ r. (n : ℕ) → CountsPassed r.report n → watch.new.told ≤ n) }
+    ensures most { IfOk result (λ r. (n : ℕ) → CountsPassed r.report n → watch.new.told.passed ≤ n) }
+    ensures received { IfOk result (λ r. watch.new.told.received ≤ received_of r.tally) }
     ensures tells { Tells W.contents watch.old.watcher watch.new.watcher watch.old.told watch.new.told }
 {
     let Fresh {
@@ -134,11 +138,12 @@ fn drive_any<V: Views + Send, R: Threads + Wait + Sync, G: Gate + Sync, W: Write
     watch: &mut Watch<W>,
 ) -> Result<Finish<V>, Unfinished>
     requires begins { IsTally start.board.shown start.board.shown start.tally }
-    requires untold { watch.old.told ≡ 0 }
+    requires untold { watch.old.told ≡ untold }
     ensures graph { IfOk result (λ r. r.report.graph ≡ start.board.shown.graph) }
     ensures drained { IfOk result (λ r. IsDrained r.report) }
     ensures counts { IfOk result (λ r. IsTally start.board.shown r.report r.tally) }
-    ensures most { IfOk result (λ r. (n : ℕ) → CountsPassed r.report n → watch.new.told ≤ n) }
+    ensures most { IfOk result (λ r. (n : ℕ) → CountsPassed r.report n → watch.new.told.passed ≤ n) }
+    ensures received { IfOk result (λ r. watch.new.told.received ≤ received_of r.tally) }
     ensures tells { Tells W.contents watch.old.watcher watch.new.watcher watch.old.told watch.new.told }
 {
     if task.workers == 1 {
@@ -161,10 +166,11 @@ fn run<V: Views + Send, R: Threads + Wait + Sync, G: Gate + Sync, W: Write + Sen
     watch: &mut Watch<W>,
 ) -> Result<Finish<V>, Unfinished>
     requires begins { IsTally start.board.shown start.board.shown start.tally }
-    requires untold { watch.old.told ≡ 0 }
+    requires untold { watch.old.told ≡ untold }
     ensures worked { IfOk result (λ r. IsWorkedOff start.board.shown.graph r.report epochs.now) }
     ensures counts { IfOk result (λ r. IsTally start.board.shown r.report r.tally) }
-    ensures last { IfOk result (λ r. CountsPassed r.report watch.new.told) }
+    ensures last { IfOk result (λ r. CountsPassed r.report watch.new.told.passed) }
+    ensures received { IfOk result (λ r. IsNear watch.new.told.received (received_of r.tally)) }
     ensures tells { Tells W.contents watch.old.watcher watch.new.watcher watch.old.told watch.new.told }
 {
     let graph = start.board.graph();
@@ -180,6 +186,7 @@ fn run<V: Views + Send, R: Threads + Wait + Sync, G: Gate + Sync, W: Write + Sen
     };
     let finish = drive_any(rt, alloc, start, task, gate, watch)?;
     let passed = finish.report.passed();
+    watch.tell_received(received(&finish.tally));
     watch.tell_rise(passed);
     if is_fed(&finish.report, inputs, epochs, epochs.count()) {
         Ok(finish)
@@ -193,8 +200,9 @@ fn run<V: Views + Send, R: Threads + Wait + Sync, G: Gate + Sync, W: Write + Sen
 /// started then.
 ///
 /// Ok only if nothing is left to do, and each input was fed, at each epoch, exactly what was read. A watcher writes how many epochs have passed, as
-/// `passed M` with rising numbers, of which the last is how many have passed at the end. If its writer fails, nothing else changes. The counters say what
-/// each vertex did at each worker.
+/// `passed M` with rising numbers, of which the last is how many have passed at the end; and, as `received N`, how many records the vertices took in,
+/// each time that the counters have risen by 1,048,576: with several workers at the end alone. If its writer fails, nothing else changes. The counters
+/// say what each vertex did at each worker.
 pub fn execute<V: Views + Send, R: Threads + Wait + Sync, G: Gate + Sync, W: Write + Send + Drop>(
     rt: &R,
     alloc: Global,
@@ -207,8 +215,8 @@ pub fn execute<V: Views + Send, R: Threads + Wait + Sync, G: Gate + Sync, W: Wri
     requires { IsTally start.board.shown start.board.shown start.tally }
     ensures worked { IfOk result (λ r. IsWorkedOff start.board.shown.graph r.report epochs.now) }
     ensures counts { IfOk result (λ r. IsTally start.board.shown r.report r.tally) }
-    ensures told { IfOk result (λ r. (n : ℕ) × CountsPassed r.report n × IsTold W.contents watcher.old watcher.new n) }
-    ensures begun { OnErr result ((n : ℕ) × IsTold W.contents watcher.old watcher.new n) }
+    ensures told { IfOk result (λ r. (n : Progress) × CountsPassed r.report n.passed × IsNear n.received (received_of r.tally) × IsTold W.contents watcher.old watcher.new n) }
+    ensures begun { OnErr result ((n : Progress) × IsTold W.contents watcher.old watcher.new n) }
 {
     let mut watch = Watch::begin(watcher);
     let result = run(rt, alloc, start, threads, epochs, gate, &mut watch);

@@ -96,6 +96,7 @@ pub fn work_off_all<
     observer: Observer<W>,
 ) -> (Observer<W>, Result<(), Unfinished>)
     ensures mark { result.0.mark ≡ observer.mark }
+    ensures received { result.0.watch.told.received ≡ observer.watch.told.received }
     ensures tells { Tells W.contents observer.watch.watcher result.0.watch.watcher observer.watch.told result.0.watch.told }
 {
     if !observer.is_on() {

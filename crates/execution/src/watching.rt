@@ -1,9 +1,9 @@
 //! Reports the progress of a run.
 
-ghost use Rattle.std.specs.Prelude.{◌≡◌, ◌≤◌, None, Option, true, false, max};
+ghost use Rattle.std.specs.Prelude.{◌≡◌, ◌≤◌, ◌<◌, ◌+◌, ◌∷◌, [], cond, None, Option, true, false, max};
 ghost use Rattle.std.specs.Io.KnownBytes.{Appends};
 ghost use Rattle.collector.specs.WrittenBytes.{AppendsFront};
-ghost use Rattle.execution.specs.Told.{IsTold, Takes, Tells, line_end, told};
+ghost use Rattle.execution.specs.Told.{IsTold, Takes, Tells, ended, interval, line_end, told, untold};
 ghost use Rattle.execution.specs.declared.watching.Watcher.{Watcher};
 
 use arrayvec::ArrayVec;
@@ -14,18 +14,58 @@ use std::sync::Wait;
 use views::Views;
 use workers::{Engine, Mark, Naming, Seat};
 
-/// How a watcher writes the number of passed epochs.
+/// The fewest records between two notes of what was received.
+const INTERVAL: u64 = 1_048_576;
+
+/// How a watcher writes how far a run is.
 #[derive(Clone, Copy, Debug, PartialEq, Eq)]
 pub enum Telling {
     /// One line each time, for a file or a pipe.
     Lines,
-    /// One line of a terminal, whose number rises in place.
+    /// One line of a terminal, whose numbers rise in place.
     InPlace,
     /// Nothing more, since the writer has failed.
     Silent,
 }
 
-/// A writer to which the number of passed epochs is reported.
+/// How far a run is.
+#[derive(Clone, Copy, Debug, PartialEq, Eq)]
+pub struct Progress {
+    /// The epochs that have passed at every output.
+    pub passed: u64,
+    /// The records that vertices took in, repeats counted.
+    pub received: u64,
+}
+
+impl Progress {
+    /// Before anything is told.
+    pub fn none() -> Progress
+        ensures { result ≡ untold }
+    {
+        Progress {
+            passed: 0,
+            received: 0,
+        }
+    }
+
+    /// Whether there is something to tell.
+    fn is_some(self) -> bool
+        ensures { ended self.passed self.received ≡ cond result (10 ∷ []) [] }
+    {
+        self.passed > 0 || self.received > 0
+    }
+}
+
+/// What is told of a run.
+#[derive(Clone, Copy, Debug, PartialEq, Eq)]
+pub enum Note {
+    /// More epochs have passed.
+    Passed(Progress),
+    /// More records were received.
+    Received(Progress),
+}
+
+/// A writer to which the progress of a run is reported.
 #[derive(Drop)]
 pub struct Watcher<W> {
     pub writer: W,
@@ -57,15 +97,21 @@ impl<W: Write> Watcher<W> {
         }
     }
 
-    /// Reports one number.
-    fn tell(&mut self, passed: u64)
-        ensures { Takes W.contents self.old self.new (told self.old.telling passed) }
+    /// Reports one note.
+    fn tell(&mut self, note: Note)
+        ensures { Takes W.contents self.old self.new (told self.old.telling note) }
     {
-        let passed = Number(passed);
-        let mut text: ArrayVec<u8, 32> = ArrayVec::new();
+        let (Note::Passed(now) | Note::Received(now)) = note;
+        let passed = Number(now.passed);
+        let received = Number(now.received);
+        let mut text: ArrayVec<u8, 64> = ArrayVec::new();
         let formed = match self.telling {
-            Telling::Lines => writeln!(text, "passed {passed}"),
-            Telling::InPlace => write!(text, "\rpassed {passed}"),
+            Telling::Lines => match note {
+                Note::Passed(_) => writeln!(text, "passed {passed}"),
+                Note::Received(_) => writeln!(text, "received {received}"),
+            },
+            Telling::InPlace if now.received == 0 => write!(text, "\rpassed {passed}"),
+            Telling::InPlace => write!(text, "\rpassed {passed} received {received}"),
             Telling::Silent => return,
         };
         match formed {
@@ -74,34 +120,35 @@ impl<W: Write> Watcher<W> {
         }
     }
 
-    /// Ends the line whose number rose in place. Separate lines have ended already.
-    fn end(&mut self, told: u64)
+    /// Ends the line whose numbers rose in place. Separate lines have ended already.
+    fn end(&mut self, told: Progress)
         ensures { Takes W.contents self.old self.new (line_end self.old.telling told) }
     {
         match self.telling {
-            Telling::InPlace if told > 0 => self.put(b"\n"),
+            Telling::InPlace if told.is_some() => self.put(b"\n"),
             Telling::Lines | Telling::InPlace | Telling::Silent => {}
         }
     }
 }
 
-/// A watcher at work, if there is one, and the number that was told last, which is 0 at first.
+/// A watcher at work, if there is one, and what was told last.
 #[derive(Drop)]
 pub struct Watch<W> {
     pub watcher: Option<Watcher<W>>,
-    pub told: u64,
+    pub told: Progress,
 }
 
 impl<W: Write> Watch<W> {
     pub fn new(watcher: Option<Watcher<W>>) -> Watch<W>
-        ensures { (result.watcher ≡ watcher) × (result.told ≡ 0) }
+        ensures { (result.watcher ≡ watcher) × (result.told ≡ untold) }
     {
-        Watch { watcher, told: 0 }
+        let told = Progress::none();
+        Watch { watcher, told }
     }
 
     /// Takes the watcher from its place.
     pub fn begin(place: &mut Option<Watcher<W>>) -> Watch<W>
-        ensures taken { (result.watcher ≡ place.old) × (result.told ≡ 0) }
+        ensures taken { (result.watcher ≡ place.old) × (result.told ≡ untold) }
         ensures none { place.new ≡ None }
     {
         Watch::new(replace(place, None))
@@ -114,15 +161,34 @@ impl<W: Write> Watch<W> {
 
     /// Reports a number of passed epochs, if it is greater than the one that was told last.
     pub fn tell_rise(&mut self, passed: u64)
-        ensures told { self.new.told ≡ max self.old.told passed }
+        ensures told { self.new.told.passed ≡ max self.old.told.passed passed }
+        ensures received { self.new.told.received ≡ self.old.told.received }
         ensures tells { Tells W.contents self.old.watcher self.new.watcher self.old.told self.new.told }
     {
-        if passed <= self.told {
+        if passed <= self.told.passed {
             return;
         }
-        self.told = passed;
+        let received = self.told.received;
+        self.told = Progress { passed, received };
         if let Some(watcher) = &mut self.watcher {
-            watcher.tell(passed);
+            watcher.tell(Note::Passed(Progress { passed, received }));
+        }
+    }
+
+    /// Reports a number of received records, if it is greater by an interval than the one that was told last.
+    pub fn tell_received(&mut self, received: u64)
+        ensures due { self.old.told.received + interval ≤ received → self.new.told.received ≡ received }
+        ensures early { received < self.old.told.received + interval → self.new.told.received ≡ self.old.told.received }
+        ensures passed { self.new.told.passed ≡ self.old.told.passed }
+        ensures tells { Tells W.contents self.old.watcher self.new.watcher self.old.told self.new.told }
+    {
+        if received.saturating_sub(self.told.received) < INTERVAL {
+            return;
+        }
+        let passed = self.told.passed;
+        self.told = Progress { passed, received };
+        if let Some(watcher) = &mut self.watcher {
+            watcher.tell(Note::Received(Progress { passed, received }));
         }
     }
 
@@ -152,9 +218,9 @@ impl<W: Write> Watch<W> {
         fill(&mut self.watcher, watcher);
     }
 
-    /// Ends the line whose number rose, and gives the watcher.
+    /// Ends the line whose numbers rose, and gives the watcher.
     pub fn end(self) -> Option<Watcher<W>>
-        ensures { (first : Option (Watcher W)) → Tells W.contents first self.watcher 0 self.told → IsTold W.contents first result self.told }
+        ensures { (first : Option (Watcher W)) → Tells W.contents first self.watcher untold self.told → IsTold W.contents first result self.told }
     {
         let Watch { mut watcher, told } = self;
         if let Some(watcher) = &mut watcher {
@@ -180,13 +246,13 @@ pub struct Observer<W> {
     pub seat: Seat,
     pub watch: Watch<W>,
     ghost of: { seat.table ≡ mark },
-    ghost read: { watch.told ≤ seat.number },
+    ghost read: { watch.told.passed ≤ seat.number },
 }
 
 impl<W: Write> Observer<W> {
     pub fn new(mark: Mark, seat: Seat, watch: Watch<W>) -> Observer<W>
         requires of { seat.table ≡ mark }
-        requires read { watch.told ≤ seat.number }
+        requires read { watch.told.passed ≤ seat.number }
         ensures { (result.mark ≡ mark) × (result.watch ≡ watch) }
     {
         Observer { mark, seat, watch }
@@ -205,6 +271,7 @@ pub fn keep_watch<J: Naming, V: Views, R: Wait, W: Write>(
     observer: Observer<W>,
 ) -> Observer<W>
     ensures mark { result.mark ≡ observer.mark }
+    ensures received { result.watch.told.received ≡ observer.watch.told.received }
     ensures tells { Tells W.contents observer.watch.watcher result.watch.watcher observer.watch.told result.watch.told }
 {
     let Observer {
@@ -213,9 +280,9 @@ pub fn keep_watch<J: Naming, V: Views, R: Wait, W: Write>(
         mut watch,
     } = observer;
     for _turn in rt.forever() {
-        engine.wait_for(rt, watch.told.saturating_add(1));
+        engine.wait_for(rt, watch.told.passed.saturating_add(1));
         let passed = mark.observe(&mut seat);
-        if passed <= watch.told || watch.is_silent() {
+        if passed <= watch.told.passed || watch.is_silent() {
             break;
         }
         watch.tell_rise(passed);

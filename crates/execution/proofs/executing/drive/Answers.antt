@@ -1,8 +1,8 @@
-use Rattle.std.proofs.Common.{◌≡◌, ◌≤◌, ◌<◌, ◌∙◌, ◌++◌, ℕ, All, List, [], ◌∷◌, ap, arith, subst, sym, refl, length}
+use Rattle.std.proofs.Common.{◌≡◌, ◌≤◌, ◌∙◌, ◌++◌, All, List, [], ◌∷◌, ap, arith, subst, sym}
 use Rattle.std.proofs.lemmas.Result.{IfOk-weaker}
 use Rattle.board.specs.Promises.{CountsPassed}
 use Rattle.board.specs.Shown.{Shown}
-use Rattle.driver.specs.Tallies.{IsTally, Rows}
+use Rattle.driver.specs.Tallies.{IsTally}
 use Rattle.driver.proofs.Tallying.{tally_at}
 use Rattle.workers.specs.Tokens.{Token}
 use Rattle.workers.proofs.Ones.{one}
@@ -28,12 +28,22 @@ returns-clause-counts g c = IfOk-weaker c.finished.result _ _ (λ r same.
 
 pub returns-clause-most : goal.returns-clause-most
 returns-clause-most g c =
-    let told = c.take_back.new.self.told in
+    let told = c.take_back.new.self.told.passed in
     let items : c.push_reserved.new.self.items ≡ c.work_off_all-observer.result.0.seat ∷ [] = c.push_reserved.ensures.items ∙ ap (λ (xs : List Token). xs ++ c.work_off_all-observer.result.0.seat ∷ []) c.args.fresh.empty.0 in
     IfOk-weaker c.finished.result _ _ (λ r same n counts.
     let there : r.report ≡ c.finish_counting-report.result.0 = λ i. (same i).report in
     let all = subst (λ (xs : List Token). All (λ s. s.number ≤ n) xs) items (c.finish_counting-report.ensures.seats n (subst (λ (x : Shown). CountsPassed x n) there counts)) in
     let seat = all 0 c.work_off_all-observer.result.0.seat (omega arith) in
     let read = c.work_off_all-observer.result.0.read in
-    let back = ap (λ w. w.told) c.take_back.ensures in
+    let back = ap (λ w. w.told.passed) c.take_back.ensures in
     omega (arith, seat, read, back)) c.finished.ensures.same
+
+-- a watcher of several workers is told of no records
+pub returns-clause-received : goal.returns-clause-received
+returns-clause-received g c = IfOk-weaker c.finished.result _ _ (λ r same.
+    let none = ap (λ p. p.received) c.requires.untold in
+    let lent = ap (λ w. w.told.received) c.lend.ensures.lent in
+    let begun = ap (λ w. w.told.received) c.new-observer.ensures.1 in
+    let kept = c.work_off_all-observer.ensures.received in
+    let back = ap (λ w. w.told.received) c.take_back.ensures in
+    omega (arith, none, lent, begun, kept, back)) c.finished.ensures.same

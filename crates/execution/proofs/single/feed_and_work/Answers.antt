@@ -15,6 +15,7 @@ loop-epoch-preserved g c = (
   stays_then c.args.board.now.shown c.feed_epoch.new.board.shown c.work_now.new.board.shown c.args.tally.now c.loop-epoch.tally c.work_now.new.tally
       (stays_then c.args.board.now.shown c.loop-epoch.board.shown c.feed_epoch.new.board.shown c.args.tally.now c.loop-epoch.tally c.loop-epoch.tally c.loop-epoch.invariant.3 (c.in_ok-feed_epoch.ensures.counts c.loop-epoch.tally))
       c.in_ok-work_now.ensures.counts,
+  c.work_now.ensures.received,
 )
 
 pub returns-clause-tells : goal.returns-clause-tells
@@ -26,7 +27,7 @@ on_ok (Ok x) f p = f p
 on_ok (Err e) f p = tt
 
 pub loop-epoch-init : goal.loop-epoch-init
-loop-epoch-init g c = (refl, c.requires.told, tells_nothing g.W.Write.contents c.args.watch.now.watcher c.args.watch.now.told, λ s is. is)
+loop-epoch-init g c = (refl, c.requires.told, tells_nothing g.W.Write.contents c.args.watch.now.watcher c.args.watch.now.told, λ s is. is, c.requires.received)
 
 pub returns-clause-counts : goal.returns-clause-counts
 returns-clause-counts g c = on_ok c.work_now-2.result (λ counts.

@@ -6,6 +6,7 @@ abbrev pub invariant-loop-turn : goal.invariant-loop-turn
 invariant-loop-turn g l =
     record {
       of : l.seat.table ≡ l.mark;
-      read : l.watch.told ≤ l.seat.number;
+      read : l.watch.told.passed ≤ l.seat.number;
+      received : l.watch.told.received ≡ l.fn.observer.watch.told.received;
       tells : Tells g.W.Write.contents l.fn.observer.watch.watcher l.watch.watcher l.fn.observer.watch.told l.watch.told;
     }
