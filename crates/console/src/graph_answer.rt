@@ -83,7 +83,8 @@ fn respond_on<
     ensures several { IsErrOf result fault.NoWorker → 1 < task.entry.threads }
     ensures counts { ReportsRun board.shown task.entry.epochs.now report (E.contents streams.old.err) (E.contents streams.new.err) }
 {
-    let Ok(start) = Start::new(alloc, board, report.is_some()) else {
+    let counting = report.is_some() || streams.watcher.is_some();
+    let Ok(start) = Start::new(alloc, board, counting) else {
         return Err(Fault::NoMemory);
     };
     let (threads, epochs) = (task.threads, task.epochs);
