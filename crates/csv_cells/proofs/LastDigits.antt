@@ -1,19 +1,54 @@
 -- Digits and dates.
-use Rattle.std.proofs.Common.{◌≡◌, ◌+◌, ◌/◌, ◌%◌, ◌++◌, ◌∷◌, ℕ, ℤ, suc, Bool, true, List, [], Option, Some, None, refl}
-use Rattle.jiff_core.specs.declared.civil.date.Date.{Date}
+use Rattle.std.proofs.Common.{◌≡◌, ◌+◌, ◌/◌, ◌%◌, ◌++◌, ◌∷◌, ℕ, ℤ, suc, Bool, true, List, [], Option, Some, None, false, refl, sym, ◌∙◌, subst, ap}
+use Rattle.jiff_core.specs.declared.civil.date.Date as civil
 use Rattle.jiff_core.specs.Date.{epoch_day}
-use Rattle.csv_cells.specs.Numbers.{IsDateText, Writes, date_text, digits_text}
+use Rattle.csv_cells.specs.Numbers.{IsDateText, Writes, WritesDate, date_text, digits_text}
+use Rattle.csv_cells.proofs.Rows.{date-once}
+use Rattle.csv_cells.specs.Cells.{WritesKind}
+use Rattle.csv_cells.specs.declared.column.Kind.TheVariants.{Date}
+use Rattle.jiff_core.specs.Calendar.{IsEpochDay}
+use Rattle.jiff_core.proofs.DateLemmas.{epoch_day_injective, epoch_day_range}
 
 -- one more digit
 pub digits_step : (count n less : ℕ) → count ≡ suc less → digits_text count n ≡ digits_text less (n / 10) ++ (48 + n % 10) ∷ []
 digits_step count n less e = rw e refl
 
-date_written_as : (d : Date) (z : ℤ) (old new : List ℕ) (o : Option (List ℕ)) (wrote : Bool) → epoch_day d ≡ z → date_text d.year d.month d.day ≡ o → Writes o old new wrote
-    → wrote ≡ true → (text : List ℕ) × IsDateText z text × (new ≡ old ++ text)
-date_written_as d z old new None wrote e at w t = cc (w, t)
-date_written_as d z old new (Some text) wrote e at w t = (text, record { date = d; numbered = e; written = at }, w.1)
+date_written_as : (d : civil.Date) (z : ℤ) (old new : List ℕ) (o : Option (List ℕ)) (wrote : Bool) → epoch_day d ≡ z → date_text d.year d.month d.day ≡ o → Writes o old new wrote
+    → WritesDate z old new wrote
+date_written_as d z old new None true e at w = cc w
+date_written_as d z old new None false e at w = λ text is.
+    let same = epoch_day_injective is.date d (is.numbered ∙ sym e) in
+    let written : date_text d.year d.month d.day ≡ Some text = rw (same.0, same.1, same.2) at is.written in
+    cc (written, at)
+date_written_as d z old new (Some text) true e at w = (text, record { date = d; numbered = e; written = at }, w.1)
+date_written_as d z old new (Some text) false e at w = cc w.0
 
 -- what is written of a date is the text of its day number
-pub date_written : (d : Date) (z : ℤ) (old new : List ℕ) (wrote : Bool) → epoch_day d ≡ z → Writes (date_text d.year d.month d.day) old new wrote
-    → wrote ≡ true → (text : List ℕ) × IsDateText z text × (new ≡ old ++ text)
-date_written d z old new wrote e w t = date_written_as d z old new (date_text d.year d.month d.day) wrote e refl w t
+pub date_written : (d : civil.Date) (z : ℤ) (old new : List ℕ) (wrote : Bool) → epoch_day d ≡ z → Writes (date_text d.year d.month d.day) old new wrote → WritesDate z old new wrote
+date_written d z old new wrote e w = date_written_as d z old new (date_text d.year d.month d.day) wrote e refl w
+
+-- a day of the calendar has a number
+pub day_in : (z : ℤ) (text : List ℕ) → IsDateText z text → IsEpochDay z
+day_in z text is = subst IsEpochDay is.numbered (epoch_day_range is.date)
+
+-- in a column of dates
+pub date_kind : (texts : List (List ℕ)) (z : ℤ) (old new : List ℕ) (wrote : Bool) → WritesDate z old new wrote → WritesKind Date texts z old new wrote
+date_kind texts z old new true w = w
+date_kind texts z old new false w = w
+
+-- what was written of a day, or of none, and what a text is
+pub date_none : (z y : ℤ) (old new text : List ℕ) (wrote : Bool) → WritesDate y old new wrote → wrote ≡ false → y ≡ z → IsDateText z text → ⊥
+date_none z y old new text true w f e is = cc f
+date_none z y old new text false w f e is = w text (rw e is)
+
+pub date_found : (y : ℤ) (old new text : List ℕ) (wrote : Bool) → WritesDate y old new wrote → wrote ≡ true → old ≡ [] → new ≡ text → IsDateText y text
+date_found y old new text true w t o e =
+    let same : w.0 ≡ text = ap (λ (x : List ℕ). x ++ w.0) (sym o) ∙ sym w.2 ∙ e in
+    subst (IsDateText y) same w.1
+date_found y old new text false w t o e = cc t
+
+pub date_again : (z y : ℤ) (old new text : List ℕ) (wrote : Bool) → WritesDate y old new wrote → wrote ≡ true → old ≡ [] → y ≡ z → IsDateText z text → new ≡ text
+date_again z y old new text true w t o e is =
+    let same : w.0 ≡ text = date-once z w.0 text (subst (λ (x : ℤ). IsDateText x w.0) e w.1) is in
+    w.2 ∙ ap (λ (x : List ℕ). x ++ w.0) o ∙ same
+date_again z y old new text false w t o e is = cc t

@@ -1,3 +1,5 @@
 mod ReadByGrammar
 pub mod Rows
 mod LastDigits
+mod Joined
+mod Places

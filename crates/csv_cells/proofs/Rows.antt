@@ -5,7 +5,6 @@ use Rattle.std.proofs.lemmas.Option.{slice_get_within}
 use Rattle.std.proofs.lemmas.List.{get_or_append_left, ext_get_or}
 use Rattle.std.proofs.Math.Seq.{get_or-append_seam}
 use Rattle.std.proofs.lemmas.List.{map-append, append-nil, append_assoc}
-use Rattle.std.specs.Result.{OkIff, result_ok}
 use Rattle.csv.specs.Records.{field_at}
 use Rattle.csv.specs.Reading.{Reached, default_config}
 use Rattle.csv_cells.specs.Texts.{text_at, Grows, IsAdded}
@@ -52,16 +51,16 @@ with-kept : (e : Empty) (k : Kind) (old more : List (List ℕ)) (z : ℤ) (f : L
 with-kept Refused k old more z f h = (h.0, kind-kept k old more z f h.1)
 with-kept Kept k old more z f h = kind-kept k old more z f h
 with-kept (Number n) k old more z f (inl h) = inl h
-with-kept (Number n) k old more z f (inr h) = inr (h.0, kind-kept k old more z f h.1)
+with-kept (Number n) k old more z f (inr h) = inr (h.0, h.1, kind-kept k old more z f h.2)
 
 pub cell-kept : (c : Column) (old more : List (List ℕ)) (z : ℤ) (f : List ℕ) → StandsAs c old z f → StandsAs c (old ++ more) z f
 cell-kept c old more z f h = with-kept c.empty c.kind old more z f h
 
-some-once : (f g : List ℕ) → Some f ≡ Some g → f ≡ g
+pub some-once : (f g : List ℕ) → Some f ≡ Some g → f ≡ g
 some-once f g e = cc e
 
 -- a day number is of one date, which has one text
-date-once : (z : ℤ) (f g : List ℕ) → IsDateText z f → IsDateText z g → f ≡ g
+pub date-once : (z : ℤ) (f g : List ℕ) → IsDateText z f → IsDateText z g → f ≡ g
 date-once z f g a b =
     let same = epoch_day_injective a.date b.date (a.numbered ∙ sym b.numbered) in
     let written : date_text b.date.year b.date.month b.date.day ≡ Some f = rw (same.0, same.1, same.2) at a.written in
@@ -81,7 +80,7 @@ with-once Kept k texts z f g a b = kind-once k texts z f g a b
 with-once (Number n) k texts z f g (inl a) (inl b) = a.1 ∙ sym b.1
 with-once (Number n) k texts z f g (inl a) (inr b) = absurd (b.0 a.0)
 with-once (Number n) k texts z f g (inr a) (inl b) = absurd (a.0 b.0)
-with-once (Number n) k texts z f g (inr a) (inr b) = kind-once k texts z f g a.1 b.1
+with-once (Number n) k texts z f g (inr a) (inr b) = kind-once k texts z f g a.2 b.2
 
 pub stands-once : (c : Column) (texts : List (List ℕ)) (z : ℤ) (f g : List ℕ) → StandsAs c texts z f → StandsAs c texts z g → f ≡ g
 stands-once c texts z f g a b = with-once c.empty c.kind texts z f g a b
@@ -121,21 +120,10 @@ numbers-push columns old more zs fs z n same known new j below = elim (cases_lt 
       rw (at, read) it
 ]
 
--- the number of a place that has a text
-pub found-number : {E : Type 0} (r : Result ℤ E) (P : Type 0) (n : ℕ) (texts : List (List ℕ)) (t : List ℕ) → OkIff r P (pos n) → slice_get texts n ≡ Some t
-    → IfSome (result_ok r) (λ z. text_at texts z ≡ Some t)
-found-number (Ok x) P n texts t h at = rw h.1 at
-found-number (Err e) P n texts t h at = tt
-
--- a key that goes last, or none
-pub grown : {K : Type 0} (b : Bool) (v : K → List ℕ) (ks new : List K) (k : K) → new ≡ (if b then ks else ks ++ k ∷ []) → Grows (map v ks) (map v new)
-grown true v ks new k e = ([], ap (map v) e ∙ sym (append-nil (map v ks)))
-grown false v ks new k e = (v k ∷ [], ap (map v) e ∙ map-append v ks (k ∷ []))
-
--- at most one text comes to the end
-pub one-added : {K : Type 0} (b : Bool) (v : K → List ℕ) (ks new : List K) (k : K) (text : List ℕ) → v k ≡ text → new ≡ (if b then ks else ks ++ k ∷ []) → IsAdded text (map v ks) (map v new)
-one-added true v ks new k text same e = inl (ap (map v) e)
-one-added false v ks new k text same e = inr (ap (map v) e ∙ map-append v ks (k ∷ []) ∙ ap (λ t. map v ks ++ t ∷ []) same)
+-- what was added grows
+pub added-grows : (text : List ℕ) (old new : List (List ℕ)) → IsAdded text old new → Grows old new
+added-grows text old new (inl a) = ([], a.1 ∙ sym (append-nil old))
+added-grows text old new (inr a) = (text ∷ [], a.1)
 
 -- growth after growth
 pub grown-twice : (a b c : List (List ℕ)) → Grows a b → Grows b c → Grows a c
@@ -196,3 +184,15 @@ none-spelled columns texts = tt
 pub no-lines : (name : List ℕ) → [] ≡ lines_text name []
 unfolding lines_text
 no-lines name = refl
+
+-- in a column whose empty cells are a number, only that one stands for an empty cell
+pub number-empty : (k : Kind) (texts : List (List ℕ)) (n z : ℤ) (cell : List ℕ) → length cell ≡ 0 → StandsWith (Number n) k texts z cell → n ≡ z
+number-empty k texts n z cell empty (inl h) = sym h.0
+number-empty k texts n z [] empty (inr h) = absurd (h.1 refl)
+number-empty k texts n z (b ∷ bs) empty (inr h) = absurd (omega (arith, empty))
+
+-- a record has a field at each of its places
+pub no-field : (fs : List (List ℕ)) (i : ℕ) → i < length fs → slice_get fs i ≡ None → ⊥
+no-field [] i below h = omega (arith, below)
+no-field (f ∷ fs) zero below h = cc h
+no-field (f ∷ fs) (suc i) below h = no-field fs i (omega (arith, below)) h

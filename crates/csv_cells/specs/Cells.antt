@@ -1,5 +1,6 @@
 -- What a number stands for in a column, and which numbers a row of cells has.
-use Rattle.std.specs.Prelude.{◌≡◌, ◌≢◌, ◌<◌, ◌⊎◌, ℕ, ℤ, pos, Bool, true, List, [], ◌++◌, length, get_or, Some}
+use Rattle.std.specs.Prelude.{◌≡◌, ◌≢◌, ◌<◌, ◌⊎◌, ℕ, ℤ, pos, Bool, true, false, List, [], ◌++◌, length, get_or, Option, Some, None, FitsSigned, ⊤}
+use Rattle.std.specs.Int.{w64}
 use Rattle.std.specs.Fmt.{signed_decimal}
 use Rattle.csv_cells.specs.Texts.{text_at}
 use Rattle.csv_cells.specs.Numbers.{IsDateText, decimal_text, time_text}
@@ -8,6 +9,8 @@ use Rattle.csv_cells.specs.declared.column.Kind.TheVariants.{Int, Decimal, Date,
 use Rattle.csv_cells.specs.declared.column.Empty.{Empty}
 use Rattle.csv_cells.specs.declared.column.Empty.TheVariants.{Refused, Kept, Number}
 use Rattle.csv_cells.specs.declared.column.Column.{Column}
+use Rattle.csv_cells.specs.declared.row.RowFault.{RowFault}
+use Rattle.csv_cells.specs.declared.row.RowFault.TheVariants.{Length, Cell, NoMemory}
 
 -- by its kind, the number stands for the text
 abbrev pub Stands : Kind → (texts : List (List ℕ)) → (number : ℤ) → (text : List ℕ) → Type 0
@@ -21,17 +24,23 @@ Stands Text texts z text = text_at texts z ≡ Some text
 abbrev pub StandsWith : Empty → Kind → (texts : List (List ℕ)) → (number : ℤ) → (cell : List ℕ) → Type 0
 StandsWith Refused kind texts z cell = (cell ≢ []) × Stands kind texts z cell
 StandsWith Kept kind texts z cell = Stands kind texts z cell
-StandsWith (Number n) kind texts z cell = ((z ≡ n) × (cell ≡ [])) ⊎ ((z ≢ n) × Stands kind texts z cell)
+StandsWith (Number n) kind texts z cell = ((z ≡ n) × (cell ≡ [])) ⊎ ((z ≢ n) × (cell ≢ []) × Stands kind texts z cell)
 
 abbrev pub StandsAs : Column → (texts : List (List ℕ)) → (number : ℤ) → (cell : List ℕ) → Type 0
 StandsAs column texts z cell = StandsWith column.empty column.kind texts z cell
 
--- if it was written, then what the number stands for
+-- the number, of 64 bits, that stands for the cell is this one, if there is one
+abbrev pub IsOnly : Column → (texts : List (List ℕ)) → (cell : List ℕ) → Option ℤ → Type 0
+IsOnly column texts cell found = (z : ℤ) → FitsSigned w64 z → StandsAs column texts z cell → found ≡ Some z
+
+-- what the number stands for was written, or it stands for nothing
 abbrev pub WritesKind : Kind → (texts : List (List ℕ)) → (number : ℤ) → (old new : List ℕ) → Bool → Type 0
-WritesKind kind texts z old new wrote = wrote ≡ true → (text : List ℕ) × Stands kind texts z text × (new ≡ old ++ text)
+WritesKind kind texts z old new true = (text : List ℕ) × Stands kind texts z text × (new ≡ old ++ text)
+WritesKind kind texts z old new false = (text : List ℕ) → ¬ Stands kind texts z text
 
 abbrev pub WritesCell : Column → (texts : List (List ℕ)) → (number : ℤ) → (old new : List ℕ) → Bool → Type 0
-WritesCell column texts z old new wrote = wrote ≡ true → (cell : List ℕ) × StandsAs column texts z cell × (new ≡ old ++ cell)
+WritesCell column texts z old new true = (cell : List ℕ) × StandsAs column texts z cell × (new ≡ old ++ cell)
+WritesCell column texts z old new false = (cell : List ℕ) → ¬ StandsAs column texts z cell
 
 -- a column of whole numbers with no empty cell
 abbrev pub plain : Column
@@ -42,3 +51,10 @@ pub record Spells (columns : List Column) (texts : List (List ℕ)) (cells : Lis
   pub counted : length numbers ≡ length columns
   pub wide : length cells ≡ length columns
   pub stands : (i : ℕ) → i < length columns → StandsAs (get_or columns i plain) texts (get_or numbers i (pos 0)) (get_or cells i [])
+
+-- why a record has no numbers: for the cell in that column none stands, and for each before it one does
+abbrev pub IsRefusedRow : List Column → (texts : List (List ℕ)) → (cells : List (List ℕ)) → RowFault → Type 0
+IsRefusedRow columns texts cells Length = length cells ≢ length columns
+IsRefusedRow columns texts cells (Cell i) = (length cells ≡ length columns) × (i < length columns) × IsOnly (get_or columns i plain) texts (get_or cells i []) None
+    × ((j : ℕ) → j < i → (z : ℤ) × StandsAs (get_or columns j plain) texts z (get_or cells j []))
+IsRefusedRow columns texts cells NoMemory = ⊤

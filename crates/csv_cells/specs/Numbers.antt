@@ -1,5 +1,5 @@
 -- Times, amounts and dates as texts.
-use Rattle.std.specs.Prelude.{◌≡◌, ◌+◌, ◌/◌, ◌%◌, ◌^◌, nat_lt, decimal, zero, suc, if◌then◌else◌, ℕ, ℤ, pos, negsuc, Bool, true, false, List, [], ◌∷◌, ◌++◌, Option, Some, None}
+use Rattle.std.specs.Prelude.{◌≡◌, ◌+◌, ◌-◌, ◌*◌, ◌/◌, ◌%◌, ◌^◌, nat_lt, decimal, zero, suc, if◌then◌else◌, ℕ, ℤ, pos, negsuc, Bool, true, false, List, [], ◌∷◌, ◌++◌, Option, Some, None}
 use Rattle.jiff_core.specs.declared.civil.date.Date.{Date}
 use Rattle.jiff_core.specs.Date.{epoch_day}
 
@@ -7,6 +7,11 @@ use Rattle.jiff_core.specs.Date.{epoch_day}
 abbrev pub digits_text : ℕ → ℕ → List ℕ
 digits_text zero n = []
 digits_text (suc count) n = digits_text count (n / 10) ++ (48 + n % 10) ∷ []
+
+-- a number with digits behind it
+unfoldable pub joined : ℕ → List ℕ → ℕ
+joined n [] = n
+joined n (b ∷ bs) = joined (n * 10 + (b - 48)) bs
 
 -- hours, minutes and seconds, `HH:MM:SS`
 abbrev pub clock_text : ℕ → List ℕ
@@ -40,3 +45,8 @@ pub record IsDateText (number : ℤ) (text : List ℕ) : Type 0 where
 abbrev pub Writes : Option (List ℕ) → (old new : List ℕ) → Bool → Type 0
 Writes None old new wrote = wrote ≡ false
 Writes (Some text) old new wrote = (wrote ≡ true) × (new ≡ old ++ text)
+
+-- the text of a day was written, or the number is of none
+abbrev pub WritesDate : (number : ℤ) → (old new : List ℕ) → Bool → Type 0
+WritesDate z old new true = (text : List ℕ) × IsDateText z text × (new ≡ old ++ text)
+WritesDate z old new false = (text : List ℕ) → ¬ IsDateText z text

@@ -1,5 +1,5 @@
 -- The texts of a dictionary.
-use Rattle.std.specs.Prelude.{◌≡◌, ◌⊎◌, ℕ, ℤ, pos, negsuc, List, [], ◌∷◌, ◌++◌, map, slice_get, Option, None}
+use Rattle.std.specs.Prelude.{◌≡◌, ◌⊎◌, ℕ, ℤ, pos, negsuc, List, [], ◌∷◌, ◌++◌, map, slice_get, Option, None, Some}
 use Rattle.csv_cells.specs.declared.dictionary.Dictionary.{Dictionary}
 
 -- the texts of a dictionary, each at its number
@@ -15,6 +15,10 @@ text_at texts (negsuc n) = None
 abbrev pub Grows : List (List ℕ) → List (List ℕ) → Type 0
 Grows old new = (more : List (List ℕ)) × (new ≡ old ++ more)
 
--- the text was there, or came to the end
+-- a number stands for the text
+abbrev pub HasText : List ℕ → List (List ℕ) → Type 0
+HasText text texts = (z : ℤ) × (text_at texts z ≡ Some text)
+
+-- the text was there, or comes to the end
 abbrev pub IsAdded : List ℕ → (old new : List (List ℕ)) → Type 0
-IsAdded text old new = (new ≡ old) ⊎ (new ≡ old ++ text ∷ [])
+IsAdded text old new = (HasText text old × (new ≡ old)) ⊎ ((¬ HasText text old) × (new ≡ old ++ text ∷ []))

@@ -1,7 +1,8 @@
 //! The number of a cell, and the cell of a number.
 
-ghost use Rattle.std.specs.Prelude.{◌≡◌, true, IfOk, IfSome, OnOk};
-ghost use Rattle.csv_cells.specs.Cells.{Stands, WritesCell, WritesKind, StandsAs};
+ghost use Rattle.std.specs.Prelude.{◌≡◌, true, ℤ, FitsSigned, IfOk, IfSome, OnOk, Some};
+ghost use Rattle.std.specs.Int.{w64};
+ghost use Rattle.csv_cells.specs.Cells.{IsOnly, Stands, WritesCell, WritesKind, StandsAs};
 ghost use Rattle.csv_cells.specs.Numbers.{IsDateText, decimal_text, time_text};
 ghost use Rattle.csv_cells.specs.Texts.{Grows, texts_of};
 
@@ -15,13 +16,17 @@ use std::alloc::{AllocError, Global};
 
 /// The seconds of a time of day: what is written as this very text.
 fn read_time(text: &[u8], scratch: &mut Vec<u8>) -> Result<Option<i64>, AllocError>
-    ensures { IfOk result (λ o. IfSome o (λ z. time_text z ≡ Some text.now)) }
+    ensures found { IfOk result (λ o. IfSome o (λ z. time_text z ≡ Some text.now)) }
+    ensures only { IfOk result (λ o. (z : ℤ) → time_text z ≡ Some text.now → o ≡ Some z) }
 {
     let Some(z) = seconds_of(text) else {
         return Ok(None);
     };
     scratch.clear();
-    if push_time(scratch, z)? && scratch.as_slice() == text {
+    if !push_time(scratch, z)? {
+        return Ok(None);
+    }
+    if scratch.as_slice() == text {
         Ok(Some(z))
     } else {
         Ok(None)
@@ -30,11 +35,15 @@ fn read_time(text: &[u8], scratch: &mut Vec<u8>) -> Result<Option<i64>, AllocErr
 
 /// The parts of a number with digits after the point: what is written as this very text.
 fn read_decimal(places: u8, text: &[u8], scratch: &mut Vec<u8>) -> Result<Option<i64>, AllocError>
-    ensures { IfOk result (λ o. IfSome o (λ z. decimal_text places z ≡ text.now)) }
+    ensures found { IfOk result (λ o. IfSome o (λ z. decimal_text places z ≡ text.now)) }
+    ensures only { IfOk result (λ o. (z : ℤ) → FitsSigned w64 z → decimal_text places z ≡ text.now → o ≡ Some z) }
 {
-    let z = parts_of(text);
+    let Some(z) = parts_of(places, text) else {
+        return Ok(None);
+    };
     scratch.clear();
-    if push_decimal(scratch, places, z)? && scratch.as_slice() == text {
+    push_decimal(scratch, places, z)?;
+    if scratch.as_slice() == text {
         Ok(Some(z))
     } else {
         Ok(None)
@@ -43,13 +52,17 @@ fn read_decimal(places: u8, text: &[u8], scratch: &mut Vec<u8>) -> Result<Option
 
 /// The number of a day: what is written as this very text.
 fn read_date(text: &[u8], scratch: &mut Vec<u8>) -> Result<Option<i64>, AllocError>
-    ensures { IfOk result (λ o. IfSome o (λ z. IsDateText z text.now)) }
+    ensures found { IfOk result (λ o. IfSome o (λ z. IsDateText z text.now)) }
+    ensures only { IfOk result (λ o. (z : ℤ) → IsDateText z text.now → o ≡ Some z) }
 {
     let Some(z) = day_of(text) else {
         return Ok(None);
     };
     scratch.clear();
-    if push_date(scratch, z)? && scratch.as_slice() == text {
+    if !push_date(scratch, z)? {
+        return Ok(None);
+    }
+    if scratch.as_slice() == text {
         Ok(Some(z))
     } else {
         Ok(None)
@@ -65,14 +78,18 @@ fn read_kind(
     scratch: &mut Vec<u8>,
 ) -> Result<Option<i64>, AllocError>
     ensures found { IfOk result (λ o. IfSome o (λ z. Stands kind (texts_of dictionary.new) z text.now)) }
+    ensures only { IfOk result (λ o. (z : ℤ) → FitsSigned w64 z → Stands kind (texts_of dictionary.new) z text.now → o ≡ Some z) }
     ensures grows { OnOk result (Grows (texts_of dictionary.old) (texts_of dictionary.new)) }
 {
     match kind {
-        Kind::Int => Ok(signed_number(text)),
+        Kind::Int => match signed_number(text) {
+            Some(z) => Ok(Some(z)),
+            None => Ok(None),
+        },
         Kind::Decimal(places) => read_decimal(places, text, scratch),
         Kind::Date => read_date(text, scratch),
         Kind::Time => read_time(text, scratch),
-        Kind::Text => dictionary.number(alloc, text),
+        Kind::Text => Ok(Some(dictionary.number(alloc, text)?)),
     }
 }
 
@@ -91,7 +108,10 @@ fn write_kind(
             out.extend_from_slice(buffer.format(z).as_bytes())?;
             Ok(true)
         }
-        Kind::Decimal(places) => push_decimal(out, places, z),
+        Kind::Decimal(places) => {
+            push_decimal(out, places, z)?;
+            Ok(true)
+        }
         Kind::Date => push_date(out, z),
         Kind::Time => push_time(out, z),
         Kind::Text => match dictionary.text(z) {
@@ -113,6 +133,7 @@ pub fn read_cell(
     scratch: &mut Vec<u8>,
 ) -> Result<Option<i64>, AllocError>
     ensures found { IfOk result (λ o. IfSome o (λ z. StandsAs column (texts_of dictionary.new) z cell.now)) }
+    ensures only { IfOk result (IsOnly column (texts_of dictionary.new) cell.now) }
     ensures grows { OnOk result (Grows (texts_of dictionary.old) (texts_of dictionary.new)) }
 {
     match column.empty {
@@ -140,8 +161,8 @@ pub fn write_cell(
 {
     match column.empty {
         Empty::Number(number) if z == number => Ok(true),
-        Empty::Number(_) | Empty::Kept => write_kind(column.kind, dictionary, z, out),
-        Empty::Refused => {
+        Empty::Kept => write_kind(column.kind, dictionary, z, out),
+        Empty::Number(_) | Empty::Refused => {
             let before = out.len();
             let wrote = write_kind(column.kind, dictionary, z, out)?;
             Ok(wrote && before < out.len())

@@ -1,10 +1,20 @@
 //! The dictionary: different texts, each at its place, from 0.
 
-ghost use Rattle.std.specs.Prelude.{◌≡◌, ◌↔◌, [], Some, IfOk, OnOk, IfSome, IsTrue, length, option_map, slice_get};
-ghost use Rattle.csv_cells.specs.Texts.{Grows, IsAdded, text_at, texts_of};
+ghost use Rattle.std.specs.Prelude.{◌≡◌, ◌↔◌, [], ℕ, ℤ, pos, Some, IfOk, OnOk, IfSome, IsTrue, length, option_map, slice_get};
+ghost use Rattle.csv_cells.specs.Texts.{IsAdded, text_at, texts_of};
 
 use indexmap::IndexSet;
 use std::alloc::{AllocError, Global};
+
+/// The number of a place.
+fn numbered(place: usize) -> Result<i64, AllocError>
+    ensures { IfOk result (λ z. z ≡ pos place) }
+{
+    match i64::try_from(place) {
+        Ok(number) => Ok(number),
+        Err(_) => Err(AllocError),
+    }
+}
 
 /// Different texts, in the order of their first appearance.
 #[derive(Drop)]
@@ -38,28 +48,29 @@ impl Dictionary {
 
     /// The place of a text that is there.
     fn place_of(&self, text: &[u8]) -> Option<usize>
-        ensures { IfSome result (λ i. slice_get (texts_of self.now) i ≡ Some text.now) }
+        ensures found { IfSome result (λ i. slice_get (texts_of self.now) i ≡ Some text.now) }
+        ensures only { IfSome result (λ i. (j : ℕ) → slice_get (texts_of self.now) j ≡ Some text.now → j ≡ i) }
     {
         let (place, found) = self.texts.get_full(text)?;
-        if found.as_slice() == text {
+        if place < self.texts.len() && found.as_slice() == text {
             Some(place)
         } else {
             None
         }
     }
 
-    /// The place of a text, which goes to the end if it is new.
-    pub fn number(&mut self, alloc: Global, text: &[u8]) -> Result<Option<i64>, AllocError>
-        ensures found { IfOk result (λ o. IfSome o (λ z. text_at (texts_of self.new) z ≡ Some text.now)) }
-        ensures grows { OnOk result (Grows (texts_of self.old) (texts_of self.new)) }
-        ensures one { OnOk result (IsAdded text.now (texts_of self.old) (texts_of self.new)) }
+    /// The number of a text, which goes to the end if it is new.
+    pub fn number(&mut self, alloc: Global, text: &[u8]) -> Result<i64, AllocError>
+        ensures found { IfOk result (λ z. text_at (texts_of self.new) z ≡ Some text.now) }
+        ensures only { IfOk result (λ z. (y : ℤ) → text_at (texts_of self.new) y ≡ Some text.now → y ≡ z) }
+        ensures added { OnOk result (IsAdded text.now (texts_of self.old) (texts_of self.new)) }
     {
         if let Some(place) = self.place_of(text) {
-            return Ok(i64::try_from(place).ok());
+            return numbered(place);
         }
         let kept = Vec::from_slice(alloc, text)?;
         let (place, _) = self.texts.insert_full(kept)?;
-        Ok(i64::try_from(place).ok())
+        numbered(place)
     }
 
     /// The text at a place.

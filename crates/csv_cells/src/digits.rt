@@ -1,7 +1,7 @@
 //! Numbers as times, amounts and dates, appended to a text.
 
-ghost use Rattle.std.specs.Prelude.{◌≡◌, ◌<◌, ◌+◌, ◌++◌, ◌^◌, ℕ, true, IfOk, List, OnOk, Some};
-ghost use Rattle.csv_cells.specs.Numbers.{IsDateText, Writes, amount_text, clock_text, date_text, decimal_text, digits_text, time_text};
+ghost use Rattle.std.specs.Prelude.{◌≡◌, ◌<◌, ◌+◌, ◌++◌, ◌/◌, ◌^◌, IfOk, OnOk};
+ghost use Rattle.csv_cells.specs.Numbers.{Writes, WritesDate, amount_text, clock_text, date_text, decimal_text, digits_text, time_text};
 
 use itoa::Buffer;
 use jiff_core::civil::Date;
@@ -54,33 +54,34 @@ pub fn push_time(out: &mut Vec<u8>, z: i64) -> Result<bool, AllocError>
     }
 }
 
-/// Appends an amount of that many parts, of which a whole has `scale`.
-fn push_amount(out: &mut Vec<u8>, places: u8, scale: u64, parts: u64) -> Result<(), AllocError>
-    requires some { 0 < scale }
-    requires scale { scale ≡ 10 ^ places }
+/// The wholes of an amount.
+fn whole_of(places: u8, parts: u64) -> u64
+    ensures { result ≡ parts / 10 ^ places }
+{
+    match 10u64.checked_pow(u32::from(places)) {
+        Some(scale) if 0 < scale => parts / scale,
+        _ => 0,
+    }
+}
+
+/// Appends an amount of that many parts.
+fn push_amount(out: &mut Vec<u8>, places: u8, parts: u64) -> Result<(), AllocError>
     ensures { OnOk result (out.new.items ≡ out.old.items ++ amount_text places parts) }
 {
     let mut buffer = Buffer::new();
-    out.extend_from_slice(buffer.format(parts / scale).as_bytes())?;
+    out.extend_from_slice(buffer.format(whole_of(places, parts)).as_bytes())?;
     out.push(b'.')?;
     push_digits(out, places, parts)
 }
 
-/// Appends the number with that many digits after the point, and says whether it stands for one.
-pub fn push_decimal(out: &mut Vec<u8>, places: u8, z: i64) -> Result<bool, AllocError>
-    ensures { IfOk result (λ b. b ≡ true → Writes (Some (decimal_text places z)) out.old.items out.new.items b) }
+/// Appends the number with that many digits after the point.
+pub fn push_decimal(out: &mut Vec<u8>, places: u8, z: i64) -> Result<(), AllocError>
+    ensures { OnOk result (out.new.items ≡ out.old.items ++ decimal_text places z) }
 {
-    let Some(scale) = 10u64.checked_pow(u32::from(places)) else {
-        return Ok(false);
-    };
-    if scale == 0 {
-        return Ok(false);
-    }
     if z < 0 {
         out.push(b'-')?;
     }
-    push_amount(out, places, scale, z.unsigned_abs())?;
-    Ok(true)
+    push_amount(out, places, z.unsigned_abs())
 }
 
 /// Appends a date, and says whether it is one of the years 0 to 9999.
@@ -100,7 +101,7 @@ fn push_civil(out: &mut Vec<u8>, date: Date) -> Result<bool, AllocError>
 
 /// Appends the day of that number, and says whether it is one of the years 0 to 9999.
 pub fn push_date(out: &mut Vec<u8>, z: i64) -> Result<bool, AllocError>
-    ensures { IfOk result (λ b. b ≡ true → (text : List ℕ) × IsDateText z text × (out.new.items ≡ out.old.items ++ text)) }
+    ensures { IfOk result (WritesDate z out.old.items out.new.items) }
 {
     let Ok(date) = Date::from_unix_epoch_day(z) else {
         return Ok(false);

@@ -1,8 +1,9 @@
 //! The numbers of a record, and the cells of numbers.
 
-ghost use Rattle.std.specs.Prelude.{IfOk, IfSome, OnOk, map};
+ghost use Rattle.csv_cells.specs.declared.row.RowFault.TheVariants as fault;
+ghost use Rattle.std.specs.Prelude.{◌≡◌, ℕ, List, IfErr, IfNone, IfOk, IfSome, OnOk, map};
 ghost use Rattle.csv.specs.Records.{fields_of};
-ghost use Rattle.csv_cells.specs.Cells.{Spells};
+ghost use Rattle.csv_cells.specs.Cells.{IsRefusedRow, Spells};
 ghost use Rattle.csv_cells.specs.Texts.{Grows, texts_of};
 
 use crate::cell::{read_cell, write_cell};
@@ -24,12 +25,16 @@ pub enum RowFault {
 }
 
 impl<T: Drop> From<AllocFailed<T>> for RowFault {
+    ghost from_gives = { λ _ r. r ≡ fault.NoMemory };
+
     fn from(_: AllocFailed<T>) -> RowFault {
         RowFault::NoMemory
     }
 }
 
 impl From<AllocError> for RowFault {
+    ghost from_gives = { λ _ r. r ≡ fault.NoMemory };
+
     fn from(_: AllocError) -> RowFault {
         RowFault::NoMemory
     }
@@ -45,6 +50,7 @@ pub fn read_row(
     scratch: &mut Vec<u8>,
 ) -> Result<(), RowFault>
     ensures spelled { OnOk result (Spells columns.now (texts_of dictionary.new) (fields_of row.now) numbers.new.items) }
+    ensures refused { IfErr result (λ fault. IsRefusedRow columns.now (texts_of dictionary.new) (fields_of row.now) fault) }
     ensures grows { OnOk result (Grows (texts_of dictionary.old) (texts_of dictionary.new)) }
 {
     numbers.clear();
@@ -71,7 +77,8 @@ pub fn write_row(
     dictionary: &Dictionary,
     numbers: &[i64],
 ) -> Result<Option<Vec<Vec<u8>>>, AllocError>
-    ensures { IfOk result (λ o. IfSome o (λ v. Spells columns.now (texts_of dictionary.now) (map (λ w. w.items) v.items) numbers.now)) }
+    ensures written { IfOk result (λ o. IfSome o (λ v. Spells columns.now (texts_of dictionary.now) (map (λ w. w.items) v.items) numbers.now)) }
+    ensures none { IfOk result (λ o. IfNone o ((cells : List (List ℕ)) → ¬ Spells columns.now (texts_of dictionary.now) cells numbers.now)) }
 {
     let mut cells = Vec::new(alloc);
     if numbers.len() != columns.len() {

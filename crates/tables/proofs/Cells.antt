@@ -27,8 +27,8 @@ one-cell (c ∷ d ∷ cells) cell n e = absurd (omega arith)
 
 -- a text that makes a dictionary longer is its last
 pub last-added : (text : List ℕ) (old new : List (List ℕ)) → IsAdded text old new → length old < length new → new ≡ old ++ text ∷ []
-last-added text old new (inl same) less = let e = ap length same in absurd (omega arith)
-last-added text old new (inr more) less = more
+last-added text old new (inl same) less = let e = ap length same.1 in absurd (omega arith)
+last-added text old new (inr more) less = more.1
 
 -- one more text of a dictionary's file
 pub dictionary-push : (texts : List (List ℕ)) (text : List ℕ) → dictionary_rows (texts ++ text ∷ []) ≡ dictionary_rows texts ++ (text ∷ []) ∷ []

@@ -1,10 +1,10 @@
-use Rattle.std.proofs.Common.{rules, ◌≡◌, [], ◌∷◌, ◌++◌, sym, ◌∙◌, get_or, slice_get, Some, FitsSigned, w64}
+use Rattle.std.proofs.Common.{rules, ◌≡◌, [], ◌∷◌, ◌++◌, sym, ◌∙◌, get_or, slice_get, Some, None, pos, arith, FitsSigned, w64}
 use Rattle.std.proofs.Math.Facts.{to_z-of_z}
 use Rattle.std.proofs.lemmas.Option.{get_or_from_slice_get}
 use Rattle.csv.specs.Records.{fields_of}
-use Rattle.csv_cells.specs.Cells.{StandsAs, plain}
+use Rattle.csv_cells.specs.Cells.{IsOnly, StandsAs, plain}
 use Rattle.csv_cells.specs.Texts.{Grows, texts_of}
-use Rattle.csv_cells.proofs.Rows.{field-same, numbers-push, grown-twice}
+use Rattle.csv_cells.proofs.Rows.{cell-kept, field-same, no-field, numbers-push, grown-twice}
 use Rattle.csv_cells.proofs.row.read_row.Goals as goal
 
 pub loop-i-preserved : goal.loop-i-preserved
@@ -22,3 +22,20 @@ loop-i-preserved c =
       grown = grown-twice _ _ _ inv.grown grows;
       stands = rw (e, grows.1) (numbers-push c.args.columns.now (texts_of c.loop-i.dictionary) grows.0 c.loop-i.numbers.items cells c.in-Some-2.z c.loop-i.i inv.counted inv.stands (rw there (rw grows.1 at found)));
     }
+
+pub returns-in_default-clause-refused : goal.returns-in_default-clause-refused
+returns-in_default-clause-refused c = λ same. no-field (fields_of c.args.row.now) c.loop-i.i (omega (arith, same, c.loop-i-test.true)) (sym (field-same (fields_of c.args.row.now) c.loop-i.i) ∙ sym c.in_default.ensures.value)
+
+pub returns-in_default-2-clause-refused : goal.returns-in_default-2-clause-refused
+returns-in_default-2-clause-refused c =
+    let inv = c.loop-i.invariant in
+    let cells = fields_of c.args.row.now in
+    let grows : Grows (texts_of c.loop-i.dictionary) (texts_of c.read_cell.new.dictionary) = c.in_ok-z.ensures.grows in
+    let at_place : slice_get cells c.loop-i.i ≡ Some c.in-Some.cell.now = sym (field-same cells c.loop-i.i) ∙ sym c.in-Some.ensures.value in
+    let there : get_or cells c.loop-i.i [] ≡ c.in-Some.cell.now = get_or_from_slice_get cells c.loop-i.i c.in-Some.cell.now [] at_place in
+    let none : IsOnly (get_or c.args.columns.now c.loop-i.i plain) (texts_of c.read_cell.new.dictionary) c.in-Some.cell.now None = rw c.in_default-2.is at c.in_ok-z.ensures.only in (
+      search (rules, c.len.ensures, c.if-len-columns.false),
+      c.loop-i-test.true,
+      rw there none,
+      λ j below. (get_or c.loop-i.numbers.items j (pos 0), rw grows.1 (cell-kept (get_or c.args.columns.now j plain) (texts_of c.loop-i.dictionary) grows.0 _ _ (inv.stands j below))),
+    )

@@ -14,5 +14,5 @@ returns-then-len-count c = λ added.
     let less : length (texts_of c.args.dictionary.now) < length (texts_of c.number.new.self) = omega arith in (
       text,
       one-cell fields text one there,
-      last-added text (texts_of c.args.dictionary.now) (texts_of c.number.new.self) c.in_ok-number.ensures.one less,
+      last-added text (texts_of c.args.dictionary.now) (texts_of c.number.new.self) c.in_ok-number.ensures.added less,
     )
