@@ -7,6 +7,3 @@
 mod numerals;
 
 pub use numerals::{number, signed_number};
-
-#[cfg(test)]
-mod tests;

@@ -11,6 +11,3 @@ mod time;
 
 pub use action::Action;
 pub use time::{MAX_LOOPS, Time};
-
-#[cfg(test)]
-mod tests;

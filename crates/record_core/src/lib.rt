@@ -17,6 +17,3 @@ pub use name::Name;
 pub use no_memory::NoMemory;
 pub use record::{MAX_FIELDS, Record};
 pub use span::{Refusal, Span};
-
-#[cfg(test)]
-mod tests;
