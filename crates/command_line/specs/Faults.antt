@@ -11,6 +11,7 @@ line_status_of (line.Heap word) = 2
 line_status_of (line.FirstEpoch word) = 2
 line_status_of (line.Dialect word) = 2
 line_status_of line.Unwrapped = 2
+line_status_of (line.Statement word) = 2
 line_status_of (line.Misplaced option commands) = 2
 line_status_of (line.Unknown option command options) = 2
 line_status_of (line.Unrecognized word commands) = 2

@@ -64,11 +64,14 @@ format_app = queried (new_app (codes "format"))
 abbrev pub named_rule : Text → Rule
 named_rule id = record (new_rule id) { long = Some id; value_names = 1 }
 
--- `sql QUERY`, with or without `--wrapped`, `--epochs`, `--dialect NAME` and `--output NAME`
+-- `sql QUERY`, with or without `--with`, `--wrapped`, `--epochs`, `--dialect NAME` and `--output NAME`
 abbrev pub sql_app : App
 sql_app =
     queried
-    (with_rule (with_rule (with_rule (with_rule (new_app (codes "sql")) (flag_rule (codes "wrapped"))) (flag_rule (codes "epochs"))) (named_rule (codes "dialect")))
+    (with_rule
+    (with_rule
+    (with_rule (with_rule (with_rule (new_app (codes "sql")) (flag_rule (codes "with"))) (flag_rule (codes "wrapped"))) (flag_rule (codes "epochs")))
+    (named_rule (codes "dialect")))
     (named_rule (codes "output")))
 
 -- `--end-mark`
@@ -184,19 +187,21 @@ abbrev pub IsAskedDatabase : Option Text → Text → Type 0
 IsAskedDatabase None database = database ≡ codes "postgres"
 IsAskedDatabase (Some word) database = database ≡ word
 
--- the form of a script for a database, whose numbers wrap or don't
-abbrev pub IsFormFor : (database : Text) → (wrapped : Bool) → ScriptForm → Type 0
-IsFormFor database wrapped (Postgres w) = (database ≡ codes "postgres") × (w ≡ wrapped)
-IsFormFor database wrapped Sqlite = (database ≡ codes "sqlite") × (wrapped ≡ false)
-IsFormFor database wrapped (Spark w) = (database ≡ codes "spark") × (w ≡ wrapped)
+-- the form of a script for a database, whose numbers wrap or don't, or of one statement
+abbrev pub IsFormFor : (database : Text) → (wrapped statement : Bool) → ScriptForm → Type 0
+IsFormFor database wrapped statement (Postgres w s) = (database ≡ codes "postgres") × (w ≡ wrapped) × (s ≡ statement)
+IsFormFor database wrapped statement Sqlite = (database ≡ codes "sqlite") × (wrapped ≡ false) × (statement ≡ false)
+IsFormFor database wrapped statement (Spark w) = (database ≡ codes "spark") × (w ≡ wrapped) × (statement ≡ false)
 
--- the form is as the option and the flag ask
+-- the form is as the option and the flags ask
 pub record IsForm (rows : List Row) (form : ScriptForm) : Type 0 where
   pub database : Text
   pub wrapped : Bool
+  pub statement : Bool
   pub is_database : IsAskedDatabase (first_of (codes "dialect") rows) database
   pub is_wrapped : IsFlag (codes "wrapped") rows wrapped
-  pub is_asked : IsFormFor database wrapped form
+  pub is_statement : IsFlag (codes "with") rows statement
+  pub is_asked : IsFormFor database wrapped statement form
 
 -- the input that is named is followed; standard input where none is
 abbrev pub IsAskedInput : Option Text → Text → Type 0

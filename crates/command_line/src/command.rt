@@ -211,6 +211,11 @@ fn sql_command<'a>(alloc: Global) -> Result<Command<'a>, AllocError>
     let command = command
         .arg(flag_arg(
             alloc,
+            "with",
+            "One statement in place of a script, for PostgreSQL",
+        ))?
+        .arg(flag_arg(
+            alloc,
             "wrapped",
             "Wrap numbers at 64 bits; else one of more bits ends the script with an error",
         ))?
@@ -522,17 +527,24 @@ fn database_of<'a>(found: &ArgMatches<'a>) -> &'a str
     }
 }
 
-/// The form of a script: none where the word is no database's, or where numbers are to wrap and can't.
+/// The form of a script: none where the word is no database's, where numbers are to wrap and can't, or where one statement isn't for PostgreSQL.
 fn form_of(found: &ArgMatches<'_>) -> Option<ScriptForm>
     ensures { IfSome result (IsForm (rows_of (found_of found.now))) }
 {
     let database = database_of(found);
     let wrapped = flag_of(found, "wrapped");
+    let statement = flag_of(found, "with");
     match database {
-        "postgres" => Some(ScriptForm::Postgres { wrapped }),
-        "spark" => Some(ScriptForm::Spark { wrapped }),
+        "postgres" => Some(ScriptForm::Postgres { wrapped, statement }),
+        "spark" => {
+            if statement {
+                None
+            } else {
+                Some(ScriptForm::Spark { wrapped })
+            }
+        }
         "sqlite" => {
-            if wrapped {
+            if wrapped || statement {
                 None
             } else {
                 Some(ScriptForm::Sqlite)
@@ -614,13 +626,31 @@ fn options_at<'a>(name: &str, found: &ArgMatches<'a>) -> Option<Options<'a>>
     }
 }
 
-/// The fault of matches that hold no options: where they name a database, it is none, or its numbers can't wrap.
+/// The fault of a database for which one statement is asked for.
+fn no_statement(alloc: Global, word: &str) -> LineFault
+    ensures { IsOfWords result }
+{
+    match String::from_str(alloc, word) {
+        Ok(word) => LineFault::Statement { word },
+        Err(_) => LineFault::NoMemory,
+    }
+}
+
+/// The fault of matches that hold no options: where they name a database, it is none, or it has no such statement, or its numbers can't wrap.
 fn unheld(alloc: Global, found: &ArgMatches<'_>) -> LineFault
     ensures { IsOfWords result }
 {
+    let statement = flag_of(found, "with");
     match text_of(found, "dialect") {
         None => LineFault::NoCommand,
-        Some("sqlite") => LineFault::Unwrapped,
+        Some("spark") => no_statement(alloc, "spark"),
+        Some("sqlite") => {
+            if statement {
+                no_statement(alloc, "sqlite")
+            } else {
+                LineFault::Unwrapped
+            }
+        }
         Some(word) => match String::from_str(alloc, word) {
             Ok(word) => LineFault::Dialect { word },
             Err(_) => LineFault::NoMemory,

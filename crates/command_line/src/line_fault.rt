@@ -33,6 +33,11 @@ pub enum LineFault {
     /// Numbers are to wrap where they can't.
     #[error("error: '--wrapped' cannot be used with '--dialect sqlite': SQLite has no numbers of more than 64 bits")]
     Unwrapped,
+    /// One statement is asked for, and not for PostgreSQL.
+    #[error("error: '--with' cannot be used with '--dialect {word}': one statement is for PostgreSQL alone")]
+    Statement {
+        word: String,
+    },
     /// An option that the command doesn't take, and others do: its name, and theirs.
     #[error("error: unexpected argument '--{option}' found; it is an option of {commands}")]
     Misplaced {
@@ -78,6 +83,7 @@ impl LineFault {
             | LineFault::FirstEpoch { .. }
             | LineFault::Dialect { .. }
             | LineFault::Unwrapped
+            | LineFault::Statement { .. }
             | LineFault::Misplaced { .. }
             | LineFault::Unknown { .. }
             | LineFault::Unrecognized { .. }

@@ -51,8 +51,8 @@ pub enum Options<'a> {
         query: Query<'a>,
         explain: bool,
     },
-    /// `loom sql QUERY`, for PostgreSQL or `--dialect NAME`, by wrapped arithmetic with `--wrapped`; with `--epochs` of all epochs at once; with
-    /// `--output NAME` of that output alone; and a fault explained with `--explain`
+    /// `loom sql QUERY`, for PostgreSQL or `--dialect NAME`, as one statement with `--with`, by wrapped arithmetic with `--wrapped`; with
+    /// `--epochs` of all epochs at once; with `--output NAME` of that output alone; and a fault explained with `--explain`
     Sql {
         query: Query<'a>,
         form: ScriptForm,

@@ -49,7 +49,7 @@ use normalise::normalise;
 use parser::parse;
 use record_core::{NoMemory, Refusal};
 pub use scripting::script_text;
-pub use sql::{Arithmetic, Epochs, Form, Request};
+pub use sql::{Arithmetic, Epochs, Form, Layout, Request};
 use std::alloc::{Allocator, Global};
 use typing::{Typed, check};
 pub use warnings::warnings_of;

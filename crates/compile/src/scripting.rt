@@ -19,7 +19,7 @@ pub fn script_text<A: Allocator + Copy>(
     request: Request<'_>,
 ) -> Result<Vec<u8>, Fault>
     ensures text { IfOk result (λ t. IsScript (asked_of request.entry) query.now t.items) }
-    ensures fault { IfErr result (IsScriptFault (asked_of request.entry).output query.now) }
+    ensures fault { IfErr result (IsScriptFault (asked_of request.entry) query.now) }
 {
     let typed = match typed_program(alloc, arena, query) {
         Ok(typed) => typed,

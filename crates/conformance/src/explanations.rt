@@ -103,7 +103,7 @@ fn holds(
 ) -> Result<bool, Fail> {
     let mut last = 0;
     for row in rows {
-        let has_none = matches!(row.code, 6 | 21 | 24..=30 | 37 | 38 | 39 | 47);
+        let has_none = matches!(row.code, 6 | 21 | 22 | 24..=30 | 37 | 38 | 39 | 47);
         if row.code <= last || row.wrong.is_empty() != has_none {
             return Ok(false);
         }
@@ -123,7 +123,7 @@ fn holds(
 #[test]
 fn examples_of_the_table(rt: HostRuntime) -> Result<(), Fail> {
     for code in 0..=255 {
-        let is_known = matches!(code, 1..=6 | 11..=21 | 23..=47);
+        let is_known = matches!(code, 1..=6 | 11..=47);
         assert_eq!(rt; explanation_of(code).is_some(), is_known);
     }
     assert!(rt; row_of_word("").is_none());

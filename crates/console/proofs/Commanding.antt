@@ -19,6 +19,7 @@ two_or_five (line.Heap word) = inl refl
 two_or_five (line.FirstEpoch word) = inl refl
 two_or_five (line.Dialect word) = inl refl
 two_or_five line.Unwrapped = inl refl
+two_or_five (line.Statement word) = inl refl
 two_or_five (line.Misplaced option commands) = inl refl
 two_or_five (line.Unknown option command options) = inl refl
 two_or_five (line.Unrecognized word commands) = inl refl

@@ -13,6 +13,8 @@ use Rattle.sql.specs.declared.form.Epochs.{Epochs}
 use Rattle.sql.specs.declared.form.Epochs.TheVariants as epochs
 use Rattle.sql.specs.declared.form.Form.{Form}
 use Rattle.sql.specs.declared.form.Form.TheVariants as form
+use Rattle.sql.specs.declared.form.Layout.{Layout}
+use Rattle.sql.specs.declared.form.Layout.TheVariants as layout
 
 -- the bytes of the text of each name, where they are known
 abbrev pub Known : Type 0
@@ -53,9 +55,20 @@ arithmetic_asked true = Wrapped
 
 -- the form that is asked for
 abbrev pub form_asked : ScriptForm → Form
-form_asked (script.Postgres wrapped) = form.Postgres (arithmetic_asked wrapped)
+form_asked (script.Postgres wrapped statement) = form.Postgres (arithmetic_asked wrapped)
 form_asked script.Sqlite = form.Sqlite
 form_asked (script.Spark wrapped) = form.Spark (arithmetic_asked wrapped)
+
+-- the layout that a flag asks for
+abbrev pub layout_by : Bool → Layout
+layout_by false = layout.Script
+layout_by true = layout.Statement
+
+-- the layout that is asked for
+abbrev pub layout_asked : ScriptForm → Layout
+layout_asked (script.Postgres wrapped statement) = layout_by statement
+layout_asked script.Sqlite = layout.Script
+layout_asked (script.Spark wrapped) = layout.Script
 
 -- the epochs that a flag asks for
 abbrev pub epochs_asked : Bool → Epochs
@@ -64,7 +77,7 @@ epochs_asked true = epochs.Every
 
 -- the script that is asked for
 abbrev pub script_asked : ScriptForm → (epochs : Bool) → Option (List ℕ) → Asked
-script_asked f e output = record { form = form_asked f; epochs = epochs_asked e; output = output }
+script_asked f e output = record { form = form_asked f; layout = layout_asked f; epochs = epochs_asked e; output = output }
 
 -- where the query of the options is found
 abbrev pub queries_of : Options → Known → Known

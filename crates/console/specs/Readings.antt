@@ -44,7 +44,8 @@ ScriptsOver a query old new result = IfSome query (λ q. ScriptEnds a (read_part
 abbrev pub GraphsOver : GraphForm → (query : Option (List ℕ)) → Option (List ℕ) → Option (List ℕ) → Result (Unit {0}) Fault → Type 0
 GraphsOver form query old new result = IfSome query (λ q. GraphEnds form (read_part q) old new result)
 
-abbrev pub ReplaysOver : (workers : ℕ) → ViewKind → (query schedule : Option (List ℕ)) → Option (List ℕ) → Option (List ℕ) → Result (Unit {0}) Fault → Type 0
+abbrev pub ReplaysOver : (workers : ℕ) → ViewKind → (query schedule : Option (List ℕ))
+    → Option (List ℕ) → Option (List ℕ) → Result (Unit {0}) Fault → Type 0
 ReplaysOver workers kind query schedule old new result = IfSome query (λ q. IfSome schedule (λ s. ReplayEnds (read_part q) workers kind s old new result))
 
 -- a command heeds its query, where its bytes are known
@@ -87,31 +88,39 @@ pub record EndsOnHanded {Q : Type 0} (left : Q → Option (List ℕ)) (q₀ q₁
 
 -- The same of a command of two. Where a reader failed, or memory ran out, a beginning of the query was read, or all of it and a beginning of the
 -- input.
-pub record EndsOnBothHanded {Q I : Type 0} (left : Q → Option (List ℕ)) (q₀ q₁ : Watched Q) (i₀ i₁ : Watched I) (promised : (query input : List ℕ) → Type 0) (result : Result (Unit {0}) Fault) : Type 0 where
+pub record EndsOnBothHanded {Q I : Type 0} (left : Q → Option (List ℕ)) (q₀ q₁ : Watched Q) (i₀ i₁ : Watched I)
+    (promised : (query input : List ℕ) → Type 0) (result : Result (Unit {0}) Fault) : Type 0 where
   pub query : List ℕ
   pub input : List ℕ
   pub read : HandsBoth left q₀ q₁ i₀ i₁ query input ⊎ (Hands q₀ q₁ query × Hands i₀ i₁ input × IsOfReading result)
   pub ends : promised query input
 
-abbrev pub RunsOnHanded : {Q I : Type 0} → (left : Q → Option (List ℕ)) → (q₀ q₁ : Watched Q) → (i₀ i₁ : Watched I) → Option (List ℕ) → Option (List ℕ) → Result (Unit {0}) Fault → Type 0
+abbrev pub RunsOnHanded : {Q I : Type 0} → (left : Q → Option (List ℕ)) → (q₀ q₁ : Watched Q) → (i₀ i₁ : Watched I)
+    → Option (List ℕ) → Option (List ℕ) → Result (Unit {0}) Fault → Type 0
 RunsOnHanded left q₀ q₁ i₀ i₁ old new result = EndsOnBothHanded left q₀ q₁ i₀ i₁ (λ q i. Ends q i old new result × Heeds q old new result) result
 
-abbrev pub ChecksOnHanded : {Q : Type 0} → (left : Q → Option (List ℕ)) → (q₀ q₁ : Watched Q) → Option (List ℕ) → Option (List ℕ) → Result (Unit {0}) Fault → Type 0
+abbrev pub ChecksOnHanded : {Q : Type 0} → (left : Q → Option (List ℕ)) → (q₀ q₁ : Watched Q)
+    → Option (List ℕ) → Option (List ℕ) → Result (Unit {0}) Fault → Type 0
 ChecksOnHanded left q₀ q₁ old new result = EndsOnHanded left q₀ q₁ (λ q. CheckEnds q old new result) result
 
-abbrev pub ChecksBothOnHanded : {Q I : Type 0} → (left : Q → Option (List ℕ)) → (q₀ q₁ : Watched Q) → (i₀ i₁ : Watched I) → Option (List ℕ) → Option (List ℕ) → Result (Unit {0}) Fault → Type 0
+abbrev pub ChecksBothOnHanded : {Q I : Type 0} → (left : Q → Option (List ℕ)) → (q₀ q₁ : Watched Q) → (i₀ i₁ : Watched I)
+    → Option (List ℕ) → Option (List ℕ) → Result (Unit {0}) Fault → Type 0
 ChecksBothOnHanded left q₀ q₁ i₀ i₁ old new result = EndsOnBothHanded left q₀ q₁ i₀ i₁ (λ q i. CheckInputEnds q i old new result) result
 
-abbrev pub FormatsOnHanded : {Q : Type 0} → (left : Q → Option (List ℕ)) → (q₀ q₁ : Watched Q) → Option (List ℕ) → Option (List ℕ) → Result (Unit {0}) Fault → Type 0
+abbrev pub FormatsOnHanded : {Q : Type 0} → (left : Q → Option (List ℕ)) → (q₀ q₁ : Watched Q)
+    → Option (List ℕ) → Option (List ℕ) → Result (Unit {0}) Fault → Type 0
 FormatsOnHanded left q₀ q₁ old new result = EndsOnHanded left q₀ q₁ (λ q. FormatEnds q old new result) result
 
-abbrev pub ScriptsOnHanded : Asked → {Q : Type 0} → (left : Q → Option (List ℕ)) → (q₀ q₁ : Watched Q) → Option (List ℕ) → Option (List ℕ) → Result (Unit {0}) Fault → Type 0
+abbrev pub ScriptsOnHanded : Asked → {Q : Type 0} → (left : Q → Option (List ℕ)) → (q₀ q₁ : Watched Q)
+    → Option (List ℕ) → Option (List ℕ) → Result (Unit {0}) Fault → Type 0
 ScriptsOnHanded a left q₀ q₁ old new result = EndsOnHanded left q₀ q₁ (λ q. ScriptEnds a q old new result) result
 
-abbrev pub GraphsOnHanded : GraphForm → {Q : Type 0} → (left : Q → Option (List ℕ)) → (q₀ q₁ : Watched Q) → Option (List ℕ) → Option (List ℕ) → Result (Unit {0}) Fault → Type 0
+abbrev pub GraphsOnHanded : GraphForm → {Q : Type 0} → (left : Q → Option (List ℕ)) → (q₀ q₁ : Watched Q)
+    → Option (List ℕ) → Option (List ℕ) → Result (Unit {0}) Fault → Type 0
 GraphsOnHanded form left q₀ q₁ old new result = EndsOnHanded left q₀ q₁ (λ q. GraphEnds form q old new result) result
 
-abbrev pub ReplaysOnHanded : (workers : ℕ) → ViewKind → {Q S : Type 0} → (left : Q → Option (List ℕ)) → (q₀ q₁ : Watched Q) → (s₀ s₁ : Watched S) → Option (List ℕ) → Option (List ℕ) → Result (Unit {0}) Fault → Type 0
+abbrev pub ReplaysOnHanded : (workers : ℕ) → ViewKind → {Q S : Type 0} → (left : Q → Option (List ℕ)) → (q₀ q₁ : Watched Q) → (s₀ s₁ : Watched S)
+    → Option (List ℕ) → Option (List ℕ) → Result (Unit {0}) Fault → Type 0
 ReplaysOnHanded workers kind left q₀ q₁ s₀ s₁ old new result =
     EndsOnBothHanded left q₀ q₁ s₀ s₁ (λ q s. ReplayEnds q workers kind s old new result × Heeds q old new result) result
 

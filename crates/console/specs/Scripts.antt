@@ -9,11 +9,11 @@ use Rattle.diagnostics.specs.declared.fault.Fault.TheVariants.{Query, TooManyVer
 use Rattle.diagnostics.specs.declared.fault.Fault.TheVariants.{NoWorker, Incomplete, ReadQuery, ReadInput, Write}
 
 -- The script is written whole at Ok, and a beginning of it where the writer failed. Else nothing is written: the query is refused, or takes
--- too many tables, or its reader failed, or there was no memory.
+-- too many tables, or lacks what is asked for, or its reader failed, or there was no memory.
 abbrev pub ScriptEnds : Asked → List ℕ → Option (List ℕ) → Option (List ℕ) → Result (Unit {0}) Fault → Type 0
 ScriptEnds a query old new (Ok u) = (text : List ℕ) × IsScript a query text × Appends old new text
 ScriptEnds a query old new (Err Write) = (text : List ℕ) × IsScript a query text × AppendsFront old new text
-ScriptEnds a query old new (Err (Query code start end)) = (new ≡ old) × IsScriptFault a.output query (Query code start end)
+ScriptEnds a query old new (Err (Query code start end)) = (new ≡ old) × IsScriptFault a query (Query code start end)
 ScriptEnds a query old new (Err NoMemory) = new ≡ old
 ScriptEnds a query old new (Err ReadQuery) = new ≡ old
 ScriptEnds a query old new (Err ReadInput) = ⊥

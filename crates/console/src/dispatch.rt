@@ -3,7 +3,7 @@
 ghost use Rattle.std.specs.Prelude.{◌≡◌, map, option_map, IfNone, IfSome};
 ghost use Rattle.collector.specs.Watching.{inner_of};
 ghost use Rattle.command_line.specs.Faults.{line_status_of};
-ghost use Rattle.console.specs.Asked.{arithmetic_asked, asks_inline, epochs_asked, form_asked, on_line, queries_of, query_word, script_asked};
+ghost use Rattle.console.specs.Asked.{arithmetic_asked, asks_inline, epochs_asked, form_asked, layout_asked, layout_by, on_line, queries_of, query_word, script_asked};
 ghost use Rattle.sql.specs.Asked.{asked_of};
 ghost use Rattle.console.specs.Commands.{Answers, EndsOn, Obeys, status_after};
 ghost use Rattle.console.specs.Transcribed.{EndsOnRead};
@@ -19,7 +19,7 @@ use crate::transcripts::Transcripts;
 use bumpalo::Bump;
 use collector::{Sources, Watched};
 use command_line::{LineFault, Options, Query, ScriptForm, options};
-use compile::{Arithmetic, Epochs, Form, Request, input_places, warnings_of};
+use compile::{Arithmetic, Epochs, Form, Layout, Request, input_places, warnings_of};
 use diagnostics::{
     Fault, Plain, TextNames, Texts, Word, explain_fault, row_of_word, write_early,
     write_explanation, write_path_hint, write_told, write_warnings,
@@ -59,9 +59,30 @@ fn form_of(form: ScriptForm) -> Form
     ensures { result ≡ form_asked form }
 {
     match form {
-        ScriptForm::Postgres { wrapped } => Form::Postgres(arithmetic_of(wrapped)),
+        ScriptForm::Postgres { wrapped, .. } => Form::Postgres(arithmetic_of(wrapped)),
         ScriptForm::Sqlite => Form::Sqlite,
         ScriptForm::Spark { wrapped } => Form::Spark(arithmetic_of(wrapped)),
+    }
+}
+
+/// The layout that a flag asks for.
+fn layout_by(statement: bool) -> Layout
+    ensures { result ≡ layout_by statement }
+{
+    if statement {
+        Layout::Statement
+    } else {
+        Layout::Script
+    }
+}
+
+/// How a script is laid out.
+fn layout_of(form: ScriptForm) -> Layout
+    ensures { result ≡ layout_asked form }
+{
+    match form {
+        ScriptForm::Postgres { statement, .. } => layout_by(statement),
+        ScriptForm::Sqlite | ScriptForm::Spark { .. } => Layout::Script,
     }
 }
 
@@ -82,6 +103,7 @@ fn request_of<'a>(form: ScriptForm, epochs: bool, output: Option<&'a str>) -> Re
     };
     Request {
         form: form_of(form),
+        layout: layout_of(form),
         epochs: epochs_of(epochs),
         output,
     }

@@ -23,10 +23,10 @@ pub struct Explanation {
 }
 
 /// The numbers that refusals have, in words.
-pub const NUMBERS: &str = "1 to 6, 11 to 21 and 23 to 47";
+pub const NUMBERS: &str = "1 to 6 and 11 to 47";
 
 /// The refusals of a query, each code once, in ascending order.
-pub static OF_QUERIES: [Explanation; 20] = [
+pub static OF_QUERIES: [Explanation; 21] = [
     Explanation {
         code: 1,
         summary: "an unexpected character, a `#` without a number, or a `!` without `=`",
@@ -188,6 +188,15 @@ pub static OF_QUERIES: [Explanation; 20] = [
         right: "",
     },
     Explanation {
+        code: 22,
+        summary: "one statement of SQL for several outputs: `--output NAME` names one",
+        place: "the name of the second output",
+        text: "`loom sql --with` writes one statement, and that gives the rows of one output: name it by `--output NAME`.\n\
+            Without `--with` a script gives the rows of each output.",
+        wrong: "",
+        right: "",
+    },
+    Explanation {
         code: 23,
         summary: "over 16 outputs",
         place: "the 17th output's word `output`",
@@ -203,7 +212,8 @@ pub static OF_QUERIES: [Explanation; 20] = [
         summary: "over 4096 tables of SQL",
         place: "the name of the `let` or the output where they become too many",
         text: "`loom sql` writes a table for each relation form, and a loop's tables again for each turn, at least one.\n\
-            Fewer turns help, and so does a `let` for a form that is written several times.",
+            Fewer turns help, and so does a `let` for a form that is written several times. For PostgreSQL `closure(65535; ..)` is one table \
+            if its body takes the variable once, through `select`, `where` and `join` alone.",
         wrong: "",
         right: "",
     },

@@ -9,3 +9,4 @@ pub mod Lets
 pub mod WidthsOfTables
 pub mod PartsOfScripts
 pub mod WantedTables
+pub mod FreeInLoops

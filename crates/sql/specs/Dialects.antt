@@ -1,5 +1,5 @@
 -- What differs from database to database, and between plain and wrapped arithmetic.
-use Rattle.std.specs.Prelude.{ℕ, List, [], codes}
+use Rattle.std.specs.Prelude.{ℕ, Bool, true, false, List, [], codes}
 use Rattle.sql.specs.declared.form.Arithmetic.{Arithmetic}
 use Rattle.sql.specs.declared.form.Arithmetic.TheVariants.{Plain, Wrapped}
 use Rattle.sql.specs.declared.form.Dialect.{Dialect}
@@ -24,6 +24,12 @@ abbrev pub database_name : Dialect → List ℕ
 database_name Postgres = codes "PostgreSQL"
 database_name Sqlite = codes "SQLite"
 database_name Spark = codes "Spark"
+
+-- recursive tables are made; SQLite knows no recursive table in a subquery, and Spark no recursive UNION
+abbrev pub has_recursion : Dialect → Bool
+has_recursion Postgres = true
+has_recursion Sqlite = false
+has_recursion Spark = false
 
 -- on both sides of a name
 abbrev pub quote : Dialect → List ℕ

@@ -32,6 +32,11 @@ abbrev pub join_word : Epochs → List ℕ
 join_word epochs.One = codes " AS r ON "
 join_word epochs.Every = codes " AS r USING (epoch) WHERE "
 
+-- between the columns of a join's right side, if that is a subquery, and the pairs
+abbrev pub inner_join_word : Epochs → List ℕ
+inner_join_word epochs.One = codes ") ON "
+inner_join_word epochs.Every = codes ") USING (epoch) WHERE "
+
 -- by how many columns the rows of a table are sorted
 abbrev pub places : Epochs → ℕ → ℕ
 places epochs.One width = width

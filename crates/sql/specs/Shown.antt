@@ -1,5 +1,5 @@
 -- The script that the tables in memory show, and the table that a name in scope stands for.
-use Rattle.std.specs.Prelude.{◌≡◌, ℕ, List, [], ◌∷◌, ◌++◌, map}
+use Rattle.std.specs.Prelude.{◌≡◌, ℕ, Bool, List, [], ◌∷◌, ◌++◌, map}
 use Rattle.expr_tree.specs.Plain.{plain_agg, plain_cond, plain_pair}
 use Rattle.expr_tree.specs.PlainLists.{plain_scalars}
 use Rattle.expr_tree.specs.Views.{cond_tree}
@@ -10,10 +10,12 @@ use Rattle.sql.specs.declared.scope.Entry.{Entry}
 use Rattle.sql.specs.declared.table.Query as declared_query
 use Rattle.sql.specs.declared.table.Query.TheVariants as query
 use Rattle.sql.specs.declared.table.Script as declared_script
+use Rattle.sql.specs.declared.table.Term as declared_term
+use Rattle.sql.specs.declared.table.Term.TheVariants as term
 use Rattle.sql.specs.declared.table.Table as declared_table
 use Rattle.sql.specs.declared.table.Table.TheVariants as table
-use Rattle.sql_meaning.specs.Script.{Table, Query, Written, Script}
-use Rattle.sql_meaning.specs.Translation.{Tables, stands, written, expression, search, aggregate_of}
+use Rattle.sql_meaning.specs.Script.{Table, Term, Query, Written, Script}
+use Rattle.sql_meaning.specs.Translation.{Tables, stands, WrittenTerm, written, expression, search, aggregate_of}
 
 -- a table
 abbrev pub shown_table : declared_table.Table → Table
@@ -26,6 +28,14 @@ shown_operation operation.Concat t u = Query.union_all t u
 shown_operation operation.Except t u = Query.except t u
 shown_operation operation.Intersect t u = Query.intersect t u
 
+-- a recursive term
+abbrev pub shown_term : {A : Type 0} → declared_term.Term A → Term
+shown_term term.Latest = Term.latest
+shown_term (term.Select' scalars p m) = Term.select (map expression (plain_scalars scalars.now)) (shown_term m)
+shown_term (term.Where' p m c) = Term.select_where (shown_term m) (search (plain_cond (cond_tree c.now)))
+shown_term (term.JoinLeft' p m t pairs) = Term.join_left (shown_term m) (shown_table t) (map plain_pair pairs.now)
+shown_term (term.JoinRight' t p m pairs) = Term.join_right (shown_table t) (shown_term m) (map plain_pair pairs.now)
+
 -- a query
 abbrev pub shown_query : {A : Type 0} → declared_query.Query A → Query
 shown_query (query.Select scalars t) = Query.select (map expression (plain_scalars scalars.now)) (shown_table t)
@@ -35,6 +45,7 @@ shown_query (query.Group keys aggregates t) =
     Query.select_group (map (λ k. k.index) keys.now) (map aggregate_of (map plain_agg aggregates.now)) (shown_table t)
 shown_query (query.Distinct t) = Query.select_distinct (shown_table t)
 shown_query (query.SetOperation o t u) = shown_operation o (shown_table t) (shown_table u)
+shown_query (query.Recursive turns t m) = Query.recursive turns (shown_table t) (shown_term m)
 
 -- the tables, the latest first, after those that there were
 abbrev pub made_onto : {A : Type 0} → List Query → List (declared_query.Query A) → List Query
@@ -48,6 +59,10 @@ made_of qs = made_onto [] qs
 -- what was written are these tables, with that result
 abbrev pub IsWritten : {A : Type 0} → Written → List (declared_query.Query A) → declared_table.Table → Type 0
 IsWritten w made t = w ≡ record { tables = made_of made; result = shown_table t }
+
+-- what was written are these tables, and that recursive term
+abbrev pub IsWrittenTerm : {A : Type 0} → WrittenTerm → List (declared_query.Query A) → declared_term.Term A → Type 0
+IsWrittenTerm w made m = w ≡ record { tables = made_of made; term = shown_term m }
 
 -- the script
 abbrev pub shown_script : {A : Type 0} → declared_script.Script A → Script
@@ -72,5 +87,5 @@ abbrev pub names_of : Known → Tables
 names_of k = names_from (λ x. Table.given k.inputs) k.entries
 
 -- the tables of one turn of a loop, whose variable stands for a table
-abbrev pub turn_of : Name → Rel → Tables → Table → List Query → Written
-turn_of x body names t earlier = written body (stands x t names) earlier
+abbrev pub turn_of : (recursive : Bool) → Name → Rel → Tables → Table → List Query → Written
+turn_of recursive x body names t earlier = written recursive body (stands x t names) earlier

@@ -1,18 +1,22 @@
--- The text of a script.
-use Rattle.std.specs.Prelude.{ℕ, ℤ, Bool, true, false, cond, not, ◌&&◌, zero, suc, ◌+◌, List, [], ◌∷◌, ◌++◌, map, length, codes, decimal, slice_index_or, Option}
+-- The text of a script, or of a statement.
+use Rattle.std.specs.Prelude.{ℕ, ℤ, Bool, true, false, cond, not, ◌&&◌, zero, suc, ◌+◌, List, [], ◌∷◌, ◌++◌, map, length, nat_eq, codes, decimal, slice_index_or, Option}
 use Rattle.std.specs.Fmt.{signed_decimal}
 use Rattle.semantics.specs.Query.{Comparison, Name, Pair, Input, Output, Program}
-use Rattle.sql_meaning.specs.Script.{Table, Expression, Search, Aggregate, Query, Script}
+use Rattle.sql_meaning.specs.Script.{Table, Expression, Search, Aggregate, Term, Query, Script}
 use Rattle.sql_meaning.specs.Translation.{script_of}
 use Rattle.sql_meaning.specs.Wanted.{is_in, reads}
-use Rattle.sql_meaning.specs.WellFormed.{Widths, widths}
-use Rattle.sql.specs.Asked.{Asked, is_asked, asked_tables}
-use Rattle.sql.specs.Epochs.{reads_text, declared_epoch, made_epoch, epoch_text, join_word, places}
-use Rattle.sql.specs.Dialects.{dialect_of, arithmetic_of, database_name, quote, begin_text, end_text, create_word, promise_text, wrap_open, wrap_close, sum_open, sum_close, operand_open, operand_close}
+use Rattle.sql_meaning.specs.WellFormed.{Widths, term_width, widths}
+use Rattle.sql.specs.Asked.{Asked, layout_of, is_asked, asked_tables}
+use Rattle.sql.specs.Epochs.{reads_text, declared_epoch, made_epoch, epoch_text, join_word, inner_join_word, places}
+use Rattle.sql.specs.Dialects.{dialect_of, arithmetic_of, database_name, has_recursion, quote, begin_text, end_text, create_word, promise_text, wrap_open, wrap_close, sum_open, sum_close, operand_open, operand_close}
 use Rattle.sql.specs.declared.form.Dialect.{Dialect}
 use Rattle.sql.specs.declared.form.Dialect.TheVariants.{Postgres, Sqlite, Spark}
 use Rattle.sql.specs.declared.form.Epochs.{Epochs}
 use Rattle.sql.specs.declared.form.Form.{Form}
+use Rattle.sql.specs.declared.form.Layout.{Layout}
+use Rattle.sql.specs.declared.form.Layout.TheVariants as layout
+use Rattle.sql.specs.declared.form.Making.{Making}
+use Rattle.sql.specs.declared.form.Making.TheVariants.{Alone, Within}
 
 -- ---- lists
 
@@ -175,18 +179,64 @@ abbrev pub select_text : Form → Epochs → List Input → List Expression → 
 select_text a e inputs es t =
     codes "SELECT " ++ (epoch_text e ++ (joined (codes ", ") (map (expression_text a) es) ++ (codes " FROM " ++ table_text (dialect_of a) inputs t)))
 
--- a query
-abbrev pub query_text : Form → Epochs → List Input → Query → List ℕ
-query_text a e inputs (Query.select es t) = select_text a e inputs es t
-query_text a e inputs (Query.select_where t c) = codes "SELECT * FROM " ++ (table_text (dialect_of a) inputs t ++ (codes " WHERE " ++ search_text a c))
-query_text a e inputs (Query.select_join t u ps) = join_text (dialect_of a) e inputs t u ps
-query_text a e inputs (Query.select_group ks as' t) = group_text a e inputs ks as' t
-query_text a e inputs (Query.select_distinct t) = codes "SELECT DISTINCT * FROM " ++ table_text (dialect_of a) inputs t
-query_text a e inputs (Query.union_all t u) = both_text (dialect_of a) inputs (codes " UNION ALL") t u
-query_text a e inputs (Query.except t u) = both_text (dialect_of a) inputs (codes " EXCEPT") t u
-query_text a e inputs (Query.intersect t u) = both_text (dialect_of a) inputs (codes " INTERSECT") t u
+-- a where
+abbrev pub where_text : Form → List Input → Table → Search → List ℕ
+where_text a inputs t c = codes "SELECT * FROM " ++ (table_text (dialect_of a) inputs t ++ (codes " WHERE " ++ search_text a c))
 
--- ---- scripts
+-- the names of so many columns, with the epoch
+abbrev pub columns_text : Epochs → (width : ℕ) → List ℕ
+columns_text e width = epoch_text e ++ numbered column_text width
+
+-- a name for a subquery, and names for its columns
+abbrev pub alias_text : Epochs → (alias : List ℕ) → (width : ℕ) → List ℕ
+alias_text e alias width = alias ++ columns_text e width
+
+-- a recursive term, in the query of the table number n, which has w columns
+abbrev pub term_text : Form → Epochs → List Input → Widths → (n w : ℕ) → Term → List ℕ
+term_text a e inputs width n w Term.latest = codes "SELECT * FROM " ++ quoted (dialect_of a) (decimal n)
+term_text a e inputs width n w (Term.select es m) =
+    codes "SELECT " ++ (epoch_text e ++ (joined (codes ", ") (map (expression_text a) es) ++ (codes " FROM (" ++ (term_text a e inputs width n w m
+    ++ (alias_text e (codes ") AS s (") (term_width m w width) ++ codes ")")))))
+term_text a e inputs width n w (Term.select_where m c) =
+    codes "SELECT * FROM (" ++ (term_text a e inputs width n w m
+    ++ (alias_text e (codes ") AS s (") (term_width m w width) ++ (codes ") WHERE " ++ search_text a c)))
+term_text a e inputs width n w (Term.join_left m t ps) =
+    codes "SELECT * FROM (" ++ (term_text a e inputs width n w m
+    ++ (alias_text e (codes ") AS l (") (term_width m w width) ++ (codes ") INNER JOIN " ++ (table_text (dialect_of a) inputs t
+    ++ (join_word e ++ joined (codes " AND ") (map pair_text ps))))))
+term_text a e inputs width n w (Term.join_right t m ps) =
+    codes "SELECT * FROM " ++ (table_text (dialect_of a) inputs t ++ (codes " AS l INNER JOIN (" ++ (term_text a e inputs width n w m
+    ++ (alias_text e (codes ") AS r (") (term_width m w width) ++ (inner_join_word e ++ joined (codes " AND ") (map pair_text ps))))))
+
+-- where a recursive table is right, as a comment
+abbrev pub turns_text : (turns : ℕ) → List ℕ
+turns_text turns = codes "-- The answer is the query's where nothing is new after " ++ (decimal turns ++ codes " turns.\n")
+
+-- the recursive UNION of the table number n, after its columns
+abbrev pub union_text : Form → Epochs → List Input → Widths → (n : ℕ) → Table → Term → List ℕ
+union_text a e inputs width n t m =
+    codes ") AS (SELECT * FROM " ++ (table_text (dialect_of a) inputs t ++ (codes " UNION " ++ (term_text a e inputs width n (width t) m
+    ++ (codes ") SELECT * FROM " ++ quoted (dialect_of a) (decimal n)))))
+
+-- the query of the recursive table number n
+abbrev pub recursive_text : Form → Epochs → List Input → Widths → (n turns : ℕ) → Table → Term → List ℕ
+recursive_text a e inputs width n turns t m =
+    turns_text turns ++ (codes "WITH RECURSIVE " ++ (quoted (dialect_of a) (decimal n) ++ (codes " (" ++ (columns_text e (width t)
+    ++ union_text a e inputs width n t m))))
+
+-- the query of the table number n
+abbrev pub query_text : Form → Epochs → List Input → Widths → (n : ℕ) → Query → List ℕ
+query_text a e inputs width n (Query.select es t) = select_text a e inputs es t
+query_text a e inputs width n (Query.select_where t c) = where_text a inputs t c
+query_text a e inputs width n (Query.select_join t u ps) = join_text (dialect_of a) e inputs t u ps
+query_text a e inputs width n (Query.select_group ks as' t) = group_text a e inputs ks as' t
+query_text a e inputs width n (Query.select_distinct t) = codes "SELECT DISTINCT * FROM " ++ table_text (dialect_of a) inputs t
+query_text a e inputs width n (Query.union_all t u) = both_text (dialect_of a) inputs (codes " UNION ALL") t u
+query_text a e inputs width n (Query.except t u) = both_text (dialect_of a) inputs (codes " EXCEPT") t u
+query_text a e inputs width n (Query.intersect t u) = both_text (dialect_of a) inputs (codes " INTERSECT") t u
+query_text a e inputs width n (Query.recursive k t m) = recursive_text a e inputs width n k t m
+
+-- ---- scripts and statements
 
 -- how many columns each table has
 abbrev pub widths_of : List Input → List Query → Widths
@@ -202,48 +252,94 @@ made_column_text Spark c = column_text c
 abbrev pub made_columns_text : Dialect → Epochs → (width : ℕ) → List ℕ
 made_columns_text d e width = made_epoch e d ++ numbered (made_column_text d) width
 
--- between the columns of the table number n and its query
+-- of a script each table is made alone, of a statement in its WITH, where the last one is the result's: the first that is wanted
+abbrev pub making_of : Layout → (wanted : List ℕ) → Making
+making_of layout.Script ns = Alone
+making_of layout.Statement [] = Alone
+making_of layout.Statement (n ∷ ns) = Within n
+
+-- before the first table
+abbrev pub with_text : Making → List ℕ
+with_text Alone = []
+with_text (Within last) = codes "WITH "
+
+-- before the name of a table
+abbrev pub made_word : Making → Dialect → List ℕ
+made_word Alone d = create_word d
+made_word (Within last) d = []
+
+-- between the columns of the table number n, which is made alone, and its query
 abbrev pub fill_text : Dialect → (n : ℕ) → List ℕ
 fill_text Postgres n = codes ") ON COMMIT DROP AS\n"
 fill_text Sqlite n = codes ");\nINSERT INTO " ++ (quoted Sqlite (decimal n) ++ codes "\n")
 fill_text Spark n = codes ") AS\n"
 
--- after its query; a view of Spark's is kept as a table
+-- after the query of one that is made alone; a view of Spark's is kept as a table
 abbrev pub keep_text : Dialect → (n : ℕ) → List ℕ
 keep_text Postgres n = codes ";\n"
 keep_text Sqlite n = codes ";\n"
 keep_text Spark n = codes ";\nCACHE TABLE " ++ (quoted Spark (decimal n) ++ codes ";\n")
 
--- what makes the table number n, of so many columns
-abbrev pub create_text : Form → Epochs → List Input → (n width : ℕ) → Query → List ℕ
-create_text a e inputs n width q =
-    create_word (dialect_of a) ++ (quoted (dialect_of a) (decimal n) ++ (codes " (" ++ (made_columns_text (dialect_of a) e width
-    ++ (fill_text (dialect_of a) n ++ (query_text a e inputs q ++ keep_text (dialect_of a) n)))))
+-- between the columns of a table and its query
+abbrev pub made_fill : Making → Dialect → (n : ℕ) → List ℕ
+made_fill Alone d n = fill_text d n
+made_fill (Within last) d n = codes ") AS (\n"
+
+-- after its query; in a WITH a comma, but not after the last table
+abbrev pub made_keep : Making → Dialect → (n : ℕ) → List ℕ
+made_keep Alone d n = keep_text d n
+made_keep (Within last) d n = cond (nat_eq n last) (codes ")\n") (codes "),\n")
+
+-- what makes the table number n
+abbrev pub create_text : Form → Epochs → Making → List Input → Widths → (n : ℕ) → Query → List ℕ
+create_text a e m inputs width n q =
+    made_word m (dialect_of a) ++ (quoted (dialect_of a) (decimal n) ++ (codes " (" ++ (made_columns_text (dialect_of a) e (width (Table.made n))
+    ++ (made_fill m (dialect_of a) n ++ (query_text a e inputs width n q ++ made_keep m (dialect_of a) n)))))
 
 -- what makes the tables that are wanted, or that one reads that is made, in order; the latest is first in the list
-abbrev pub tables_text : Form → Epochs → List Input → Widths → (wanted : List ℕ) → List Query → List ℕ
-tables_text a e inputs width wanted [] = []
-tables_text a e inputs width wanted (q ∷ earlier) =
+abbrev pub tables_text : Form → Epochs → Making → List Input → Widths → (wanted : List ℕ) → List Query → List ℕ
+tables_text a e m inputs width wanted [] = []
+tables_text a e m inputs width wanted (q ∷ earlier) =
     cond (is_in (length earlier) wanted)
-    (tables_text a e inputs width (wanted ++ reads q) earlier ++ create_text a e inputs (length earlier) (width (Table.made (length earlier))) q)
-    (tables_text a e inputs width wanted earlier)
+    (tables_text a e m inputs width (wanted ++ reads q) earlier ++ create_text a e m inputs width (length earlier) q)
+    (tables_text a e m inputs width wanted earlier)
 
 -- a place in ORDER BY: 1, 2, ..
 abbrev pub place_text : ℕ → List ℕ
 place_text n = decimal (n + 1)
 
+-- an output's name
+abbrev pub title_text : Name → List ℕ
+title_text x = codes "-- " ++ (x ++ codes "\n")
+
+-- the names of the outputs that are asked for
+abbrev pub names_text : Option Name → List Table → List Output → List ℕ
+names_text y [] os = []
+names_text y (t ∷ ts) [] = []
+names_text y (t ∷ ts) (o ∷ os) = cond (is_asked y o.name) (title_text o.name) [] ++ names_text y ts os
+
+-- in a statement they stand before the tables
+abbrev pub titles_text : Layout → Option Name → List Table → List Output → List ℕ
+titles_text layout.Script y ts os = []
+titles_text layout.Statement y ts os = names_text y ts os
+
+-- and in a script each before its rows
+abbrev pub row_title : Layout → Name → List ℕ
+row_title layout.Script x = title_text x
+row_title layout.Statement x = []
+
 -- the rows of an output's table of so many columns, in order
-abbrev pub result_text : Dialect → Epochs → List Input → (width : ℕ) → Table → Name → List ℕ
-result_text d e inputs width t x =
-    codes "-- "
-    ++ (x ++ (codes "\nSELECT * FROM " ++ (table_text d inputs t ++ (codes " ORDER BY " ++ (numbered place_text (places e width) ++ codes ";\n")))))
+abbrev pub result_text : Layout → Dialect → Epochs → List Input → (width : ℕ) → Table → Name → List ℕ
+result_text l d e inputs width t x =
+    row_title l x
+    ++ (codes "SELECT * FROM " ++ (table_text d inputs t ++ (codes " ORDER BY " ++ (numbered place_text (places e width) ++ codes ";\n"))))
 
 -- the rows of each output that is asked for, in order
-abbrev pub results_text : Dialect → Epochs → List Input → Widths → Option Name → List Table → List Output → List ℕ
-results_text d e inputs width y [] os = []
-results_text d e inputs width y (t ∷ ts) [] = []
-results_text d e inputs width y (t ∷ ts) (o ∷ os) =
-    cond (is_asked y o.name) (result_text d e inputs (width t) t o.name) [] ++ results_text d e inputs width y ts os
+abbrev pub results_text : Layout → Dialect → Epochs → List Input → Widths → Option Name → List Table → List Output → List ℕ
+results_text l d e inputs width y [] os = []
+results_text l d e inputs width y (t ∷ ts) [] = []
+results_text l d e inputs width y (t ∷ ts) (o ∷ os) =
+    cond (is_asked y o.name) (result_text l d e inputs (width t) t o.name) [] ++ results_text l d e inputs width y ts os
 
 -- a column of a given table
 abbrev pub declared_text : ℕ → List ℕ
@@ -262,18 +358,36 @@ abbrev pub inputs_text : Dialect → Epochs → List Input → List ℕ
 inputs_text d e [] = []
 inputs_text d e (a ∷ as') = declaration_text d e a ++ inputs_text d e as'
 
+-- a statement sees the given tables as they are at one moment, and leaves nothing behind
+abbrev pub opening_text : Layout → Dialect → List ℕ
+opening_text layout.Script d = begin_text d
+opening_text layout.Statement d = []
+
+abbrev pub closing_text : Layout → Dialect → List ℕ
+closing_text layout.Script d = end_text d
+closing_text layout.Statement d = []
+
 -- what stands before the tables
-abbrev pub head_text : Form → Epochs → List Input → List ℕ
-head_text a e inputs =
+abbrev pub head_text : Form → Layout → Epochs → List Input → List ℕ
+head_text a l e inputs =
     codes "-- A query as SQL, for " ++ (database_name (dialect_of a) ++ (reads_text e ++ (inputs_text (dialect_of a) e inputs
-    ++ (promise_text (arithmetic_of a) ++ begin_text (dialect_of a)))))
+    ++ (promise_text (arithmetic_of a) ++ opening_text l (dialect_of a)))))
 
--- what makes a script's tables, and its results
-abbrev pub body_text : Asked → Program → Script → List ℕ
-body_text a p s =
-    tables_text a.form a.epochs p.inputs (widths_of p.inputs s.tables) (asked_tables a.output s.results p.outputs) s.tables
-    ++ results_text (dialect_of a.form) a.epochs p.inputs (widths_of p.inputs s.tables) a.output s.results p.outputs
+-- what makes the tables that are wanted, and gives the results
+abbrev pub body_text : Asked → Layout → (wanted : List ℕ) → Program → Script → List ℕ
+body_text a l wanted p s =
+    titles_text l a.output s.results p.outputs
+    ++ (with_text (making_of l wanted)
+    ++ (tables_text a.form a.epochs (making_of l wanted) p.inputs (widths_of p.inputs s.tables) wanted s.tables
+    ++ results_text l (dialect_of a.form) a.epochs p.inputs (widths_of p.inputs s.tables) a.output s.results p.outputs))
 
--- a program's script, as it is asked for
+-- a program's script for the database that is asked for
+abbrev pub asked_script : Asked → Program → Script
+asked_script a p = script_of (has_recursion (dialect_of a.form)) p
+
+-- its text, or that of the statement, as it is asked for
 abbrev pub script_text : Asked → Program → List ℕ
-script_text a p = head_text a.form a.epochs p.inputs ++ (body_text a p (script_of p) ++ end_text (dialect_of a.form))
+script_text a p =
+    head_text a.form (layout_of a) a.epochs p.inputs
+    ++ (body_text a (layout_of a) (asked_tables a.output (asked_script a p).results p.outputs) p (asked_script a p)
+    ++ closing_text (layout_of a) (dialect_of a.form))

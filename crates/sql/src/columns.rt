@@ -4,7 +4,7 @@ ghost use Rattle.std.specs.Prelude.{◌≡◌, ◌++◌, codes, map, OnOk};
 ghost use Rattle.expr_tree.specs.Plain.{plain_agg, plain_pair};
 ghost use Rattle.sql_meaning.specs.Translation.{aggregate_of};
 ghost use Rattle.sql.specs.Epochs.{places};
-ghost use Rattle.sql.specs.Text.{aggregate_text, column_text, comma_text, continued, declared_columns_text, declared_text, joined, keys_text, made_column_text, made_columns_text, numbered, pair_text, place_text, sum_text};
+ghost use Rattle.sql.specs.Text.{aggregate_text, column_text, columns_text, comma_text, continued, declared_columns_text, declared_text, joined, keys_text, made_column_text, made_columns_text, numbered, pair_text, place_text, sum_text};
 
 use crate::form::{Dialect, Epochs, Form};
 use crate::push::{push, push_column, push_number};
@@ -138,6 +138,26 @@ fn push_comma(text: &mut Vec<u8>, number: u64) -> Result<(), NoMemory>
         return Ok(());
     }
     push(text, b", ")
+}
+
+/// Appends the first columns.
+fn push_numbered_columns(text: &mut Vec<u8>, count: u64) -> Result<(), NoMemory>
+    ensures { OnOk result (text.new.items ≡ text.old.items ++ numbered column_text count) }
+{
+    for i in 0..count {
+        push_comma(text, i)?;
+        push_column(text, i)?;
+    }
+    Ok(())
+}
+
+/// Appends the names of so many columns, with the epoch.
+pub fn push_columns(text: &mut Vec<u8>, epochs: Epochs, count: u64) -> Result<(), NoMemory>
+    ensures { OnOk result (text.new.items ≡ text.old.items ++ columns_text epochs count) }
+{
+    let epoch = epochs.epoch_text();
+    push(text, epoch)?;
+    push_numbered_columns(text, count)
 }
 
 /// Appends a column as a table that is made has it.

@@ -1,8 +1,10 @@
-//! How a script is written: for which database, how it computes, and of which epochs.
+//! How a script is written: for which database, how it computes, how it is laid out, and of which epochs.
 
 ghost use Rattle.std.specs.Prelude.{◌≡◌};
-ghost use Rattle.sql.specs.Epochs.{declared_epoch, epoch_text, join_word, made_epoch, reads_text};
-ghost use Rattle.sql.specs.Dialects.{arithmetic_of, begin_text, create_word, database_name, dialect_of, end_text, operand_close, operand_open, promise_text, quote, sum_close, sum_open, wrap_close, wrap_open};
+ghost use Rattle.sql.specs.Asked.{asked_of, layout_for, layout_of};
+ghost use Rattle.sql.specs.Epochs.{declared_epoch, epoch_text, inner_join_word, join_word, made_epoch, reads_text};
+ghost use Rattle.sql.specs.Text.{closing_text, made_word, making_of, opening_text, with_text};
+ghost use Rattle.sql.specs.Dialects.{arithmetic_of, begin_text, create_word, database_name, dialect_of, end_text, has_recursion, operand_close, operand_open, promise_text, quote, sum_close, sum_open, wrap_close, wrap_open};
 
 /// The database that a script is for.
 #[derive(Clone, Copy, Debug, PartialEq, Eq)]
@@ -29,6 +31,24 @@ pub enum Form {
     Spark(Arithmetic),
 }
 
+/// How the tables and the results are laid out.
+#[derive(Clone, Copy, Debug, PartialEq, Eq)]
+pub enum Layout {
+    /// As a script: each table is made by a statement of its own.
+    Script,
+    /// As one statement, with the tables in its WITH. For SQLite and Spark a script stands for it.
+    Statement,
+}
+
+/// Where a table is made.
+#[derive(Clone, Copy, Debug, PartialEq, Eq)]
+pub enum Making {
+    /// By statements of its own.
+    Alone,
+    /// In a WITH, of which the table of that number is the last.
+    Within(u64),
+}
+
 /// Of which epochs a script is.
 #[derive(Clone, Copy, Debug, PartialEq, Eq)]
 pub enum Epochs {
@@ -38,12 +58,30 @@ pub enum Epochs {
     Every,
 }
 
-/// The script that is asked for: its form, of which epochs it is, and the name of the only output that it is to have, or all outputs.
+/// The script that is asked for: its form and layout, of which epochs it is, and the name of the only output that it is to have, or all outputs.
 #[derive(Clone, Copy, Debug)]
 pub struct Request<'a> {
     pub form: Form,
+    pub layout: Layout,
     pub epochs: Epochs,
     pub output: Option<&'a [u8]>,
+}
+
+/// How a table is written: in which form, of which epochs, and where it is made.
+#[derive(Clone, Copy, Debug)]
+pub struct Style {
+    pub form: Form,
+    pub epochs: Epochs,
+    pub making: Making,
+}
+
+impl Request<'_> {
+    /// The layout of what is written.
+    pub fn layout(self) -> Layout
+        ensures { result ≡ layout_of (asked_of self.entry) }
+    {
+        self.layout.of(self.form.dialect())
+    }
 }
 
 impl Dialect {
@@ -55,6 +93,16 @@ impl Dialect {
             Dialect::Postgres => b"PostgreSQL",
             Dialect::Sqlite => b"SQLite",
             Dialect::Spark => b"Spark",
+        }
+    }
+
+    /// Whether recursive tables are made. SQLite knows no recursive table in a subquery, and Spark no recursive UNION.
+    pub fn has_recursion(self) -> bool
+        ensures { result ≡ has_recursion self }
+    {
+        match self {
+            Dialect::Postgres => true,
+            Dialect::Sqlite | Dialect::Spark => false,
         }
     }
 
@@ -97,6 +145,73 @@ impl Dialect {
         match self {
             Dialect::Postgres | Dialect::Sqlite => b"CREATE TEMPORARY TABLE ",
             Dialect::Spark => b"CREATE OR REPLACE TEMPORARY VIEW ",
+        }
+    }
+}
+
+impl Layout {
+    /// The layout of what is written for a database.
+    pub fn of(self, dialect: Dialect) -> Layout
+        ensures { result ≡ layout_for dialect self }
+    {
+        match dialect {
+            Dialect::Postgres => self,
+            Dialect::Sqlite | Dialect::Spark => Layout::Script,
+        }
+    }
+
+    /// What stands before the tables.
+    pub fn opening_text(self, dialect: Dialect) -> &'static [u8]
+        ensures { result.now ≡ opening_text self dialect }
+    {
+        match self {
+            Layout::Script => dialect.begin_text(),
+            Layout::Statement => b"",
+        }
+    }
+
+    /// What stands after the last result.
+    pub fn closing_text(self, dialect: Dialect) -> &'static [u8]
+        ensures { result.now ≡ closing_text self dialect }
+    {
+        match self {
+            Layout::Script => dialect.end_text(),
+            Layout::Statement => b"",
+        }
+    }
+
+    /// Where tables are made, if those of these numbers are wanted by the results.
+    pub fn making(self, wanted: &[u64]) -> Making
+        ensures { result ≡ making_of self wanted.now }
+    {
+        match self {
+            Layout::Script => Making::Alone,
+            Layout::Statement => match wanted {
+                [] => Making::Alone,
+                [last, ..] => Making::Within(*last),
+            },
+        }
+    }
+}
+
+impl Making {
+    /// What stands before the first table.
+    pub fn with_text(self) -> &'static [u8]
+        ensures { result.now ≡ with_text self }
+    {
+        match self {
+            Making::Alone => b"",
+            Making::Within(_) => b"WITH ",
+        }
+    }
+
+    /// What stands before the name of a table.
+    pub fn word(self, dialect: Dialect) -> &'static [u8]
+        ensures { result.now ≡ made_word self dialect }
+    {
+        match self {
+            Making::Alone => dialect.create_word(),
+            Making::Within(_) => b"",
         }
     }
 }
@@ -208,6 +323,16 @@ impl Epochs {
         match self {
             Epochs::One => b" AS r ON ",
             Epochs::Every => b" AS r USING (epoch) WHERE ",
+        }
+    }
+
+    /// What stands between the columns of a join's right side, if that is a subquery, and the pairs.
+    pub fn inner_join_word(self) -> &'static [u8]
+        ensures { result.now ≡ inner_join_word self }
+    {
+        match self {
+            Epochs::One => b") ON ",
+            Epochs::Every => b") USING (epoch) WHERE ",
         }
     }
 }

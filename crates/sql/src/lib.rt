@@ -4,7 +4,7 @@
 //! means, and that it means the program, is `sql_meaning`'s; the contract here is that the text is that of the script.
 //!
 //!     tree -> count       the tables that it takes at most; over 4096 it is refused, and nothing is made
-//!     tree -> script      the tables, which borrow the tree's parts
+//!     tree -> script      the tables, which borrow the tree's parts; for PostgreSQL some closures are one recursive table
 //!     script -> text       of the tables that are asked for, and of those that one reads that is made
 //!
 //! Below stand `expr_tree`, `sql_meaning`, `semantics`, `record_core` and `itoa`.
@@ -14,8 +14,10 @@ mod columns;
 mod condition;
 mod counting;
 mod form;
+mod linear;
 mod push;
 mod query;
+mod recursion;
 mod relation;
 mod scalar;
 mod scope;
@@ -26,6 +28,6 @@ mod whole;
 mod widths;
 
 pub use counting::{MAX_TABLES, TOO_MANY_TABLES};
-pub use form::{Arithmetic, Dialect, Epochs, Form, Request};
+pub use form::{Arithmetic, Dialect, Epochs, Form, Layout, Request};
 pub use statement::sql_text;
-pub use wanted::NO_SUCH_OUTPUT;
+pub use wanted::{NO_SUCH_OUTPUT, SEVERAL_OUTPUTS};

@@ -4,16 +4,17 @@ ghost use Rattle.std.specs.Prelude.{◌≡◌, ◌++◌, [], decimal, map, slice
 ghost use Rattle.expr_tree.specs.Plain.{plain_agg, plain_cond, plain_input, plain_pair};
 ghost use Rattle.expr_tree.specs.PlainLists.{plain_scalars};
 ghost use Rattle.expr_tree.specs.Views.{cond_tree};
-ghost use Rattle.sql_meaning.specs.Script as script;
 ghost use Rattle.sql_meaning.specs.Translation.{aggregate_of, expression, search};
 ghost use Rattle.sql.specs.Shown.{shown_query, shown_table};
+ghost use Rattle.sql.specs.Widths.{width_in};
 ghost use Rattle.sql.specs.Signs.{set_operator_text};
-ghost use Rattle.sql.specs.Text.{both_text, group_text, join_text, query_text, quoted, select_text, table_text};
+ghost use Rattle.sql.specs.Text.{both_text, group_text, join_text, query_text, quoted, select_text, table_text, where_text};
 
 use crate::columns::{push_aggregates, push_keys, push_pairs};
 use crate::condition::push_cond;
 use crate::form::{Dialect, Epochs, Form};
 use crate::push::{push, push_number};
+use crate::recursion::{Recursive, push_recursive};
 use crate::scalar::push_scalars;
 use crate::table::{Query, Table};
 use expr_tree::{Agg, Column, Cond, Input, Pair, Scalar, SetOperator};
@@ -92,13 +93,12 @@ fn push_select<A: Allocator>(
 fn push_where<A: Allocator>(
     text: &mut Vec<u8>,
     form: Form,
-    epochs: Epochs,
     inputs: &[Input],
     from: Table,
     condition: &Cond<A>,
 ) -> Result<(), NoMemory>
-    ensures { OnOk result (text.new.items ≡ text.old.items ++ query_text form epochs (map plain_input inputs.now)
-        (script.Query.select_where (shown_table from) (search (plain_cond (cond_tree condition.now))))) }
+    ensures { OnOk result (text.new.items ≡ text.old.items ++ where_text form (map plain_input inputs.now)
+        (shown_table from) (search (plain_cond (cond_tree condition.now)))) }
 {
     push(text, b"SELECT * FROM ")?;
     push_table(text, form.dialect(), inputs, from)?;
@@ -166,21 +166,22 @@ fn push_both(
     push_table(text, dialect, inputs, right)
 }
 
-/// Appends a query.
+/// Appends the query of the table with that number; `widths` has the columns of the tables that are made.
 pub fn push_query<A: Allocator>(
     text: &mut Vec<u8>,
     form: Form,
     epochs: Epochs,
     inputs: &[Input],
+    widths: &[u64],
+    number: u64,
     query: &Query<'_, A>,
 ) -> Result<(), NoMemory>
-    ensures { OnOk result (text.new.items ≡ text.old.items ++ query_text form epochs (map plain_input inputs.now) (shown_query query.now)) }
+    ensures { OnOk result (text.new.items ≡ text.old.items ++ query_text form epochs (map plain_input inputs.now)
+        (width_in (map plain_input inputs.now) widths.now) number (shown_query query.now)) }
 {
     match query {
         Query::Select(scalars, from) => { push_select(text, form, epochs, inputs, scalars, *from) }
-        Query::Where(from, condition) => {
-            push_where(text, form, epochs, inputs, *from, condition)
-        }
+        Query::Where(from, condition) => { push_where(text, form, inputs, *from, condition) }
         Query::Join(left, right, pairs) => push_join(
             text,
             form.dialect(),
@@ -199,6 +200,14 @@ pub fn push_query<A: Allocator>(
         }
         Query::SetOperation(operator, left, right) => {
             push_both(text, form.dialect(), inputs, *operator, *left, *right)
+        }
+        Query::Recursive(turns, start, term) => {
+            let table = Recursive {
+                number,
+                turns: *turns,
+                start: *start,
+            };
+            push_recursive(text, form, epochs, inputs, widths, table, term)
         }
     }
 }

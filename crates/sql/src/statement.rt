@@ -1,23 +1,26 @@
-//! The text of a script.
+//! The text of a script or a statement.
 
-ghost use Rattle.std.specs.Prelude.{◌≡◌, ◌≤◌, ◌++◌, [], cond, length, map, take, true, IfErr, IfOk, OnOk};
+ghost use Rattle.std.specs.Prelude.{◌≡◌, ◌≤◌, ◌++◌, [], cond, length, map, option_map, take, true, IfErr, IfOk, OnOk};
 ghost use Rattle.expr_tree.specs.Plain.{plain_input, plain_program};
 ghost use Rattle.expr_tree.specs.PlainLists.{plain_outputs};
 ghost use Rattle.expr_tree.specs.Views.{program_tree};
-ghost use Rattle.sql.specs.Asked.{asked_of, has_output, is_asked};
+ghost use Rattle.sql.specs.Asked.{asked_of, has_layout, has_output, is_asked, layout_of};
 ghost use Rattle.sql.specs.Dialects.{dialect_of};
 ghost use Rattle.sql.specs.Limits.{IsSqlRefusal};
 ghost use Rattle.sql.specs.Shown.{made_of, shown_query, shown_table};
-ghost use Rattle.sql.specs.Text.{create_text, declaration_text, fill_text, head_text, inputs_text, keep_text, quoted, result_text, results_text, script_text, tables_text};
+ghost use Rattle.sql.specs.Text.{create_text, declaration_text, fill_text, head_text, inputs_text, keep_text, made_fill, made_keep, names_text, quoted, result_text, results_text, row_title, script_text, tables_text, title_text, titles_text};
 ghost use Rattle.sql.specs.Widths.{AreWidths, width_in};
 
 use crate::columns::{push_declared, push_made_columns, push_places};
 use crate::counting::{TOO_MANY_TABLES, count_program};
-use crate::form::{Dialect, Epochs, Form, Request};
+use crate::form::{Dialect, Epochs, Layout, Making, Request, Style};
 use crate::push::push;
 use crate::query::{push_made, push_query, push_table};
 use crate::table::{Query, Table};
-use crate::wanted::{NO_SUCH_OUTPUT, has_output, is_asked, is_in, push_asked, push_reads};
+use crate::wanted::{
+    NO_SUCH_OUTPUT, SEVERAL_OUTPUTS, has_layout, has_output, is_asked, is_in, push_asked,
+    push_reads,
+};
 use crate::whole::make_script;
 use crate::widths::{query_width, table_width};
 use expr_tree::{Input, Output, Program};
@@ -53,26 +56,71 @@ fn push_keep(text: &mut Vec<u8>, dialect: Dialect, number: u64) -> Result<(), No
     }
 }
 
-/// Appends what makes a table of so many columns.
+/// Appends what stands between the columns and the query of a table that is made alone or in a WITH.
+fn push_made_fill(
+    text: &mut Vec<u8>,
+    making: Making,
+    dialect: Dialect,
+    number: u64,
+) -> Result<(), NoMemory>
+    ensures { OnOk result (text.new.items ≡ text.old.items ++ made_fill making dialect number) }
+{
+    match making {
+        Making::Alone => push_fill(text, dialect, number),
+        Making::Within(_) => push(text, b") AS (\n"),
+    }
+}
+
+/// Appends what stands after the query of such a table.
+fn push_made_keep(
+    text: &mut Vec<u8>,
+    making: Making,
+    dialect: Dialect,
+    number: u64,
+) -> Result<(), NoMemory>
+    ensures { OnOk result (text.new.items ≡ text.old.items ++ made_keep making dialect number) }
+{
+    match making {
+        Making::Alone => push_keep(text, dialect, number),
+        Making::Within(last) => {
+            if number == last {
+                push(text, b")\n")
+            } else {
+                push(text, b"),\n")
+            }
+        }
+    }
+}
+
+/// Appends what makes a table; `widths` has the columns of those that are made.
 fn push_create<A: Allocator>(
     text: &mut Vec<u8>,
-    form: Form,
-    epochs: Epochs,
+    style: Style,
     inputs: &[Input],
+    widths: &[u64],
     number: u64,
-    width: u64,
     query: &Query<'_, A>,
 ) -> Result<(), NoMemory>
-    ensures { OnOk result (text.new.items ≡ text.old.items ++ create_text form epochs (map plain_input inputs.now) number width (shown_query query.now)) }
+    ensures { OnOk result (text.new.items ≡ text.old.items ++ create_text style.form style.epochs style.making (map plain_input inputs.now)
+        (width_in (map plain_input inputs.now) widths.now) number (shown_query query.now)) }
 {
-    let dialect = form.dialect();
-    push(text, dialect.create_word())?;
+    let dialect = style.form.dialect();
+    let width = table_width(inputs, widths, Table::Made(number));
+    push(text, style.making.word(dialect))?;
     push_made(text, dialect, number)?;
     push(text, b" (")?;
-    push_made_columns(text, dialect, epochs, width)?;
-    push_fill(text, dialect, number)?;
-    push_query(text, form, epochs, inputs, query)?;
-    push_keep(text, dialect, number)
+    push_made_columns(text, dialect, style.epochs, width)?;
+    push_made_fill(text, style.making, dialect, number)?;
+    push_query(
+        text,
+        style.form,
+        style.epochs,
+        inputs,
+        widths,
+        number,
+        query,
+    )?;
+    push_made_keep(text, style.making, dialect, number)
 }
 
 /// How many columns each table has.
@@ -94,7 +142,7 @@ fn table_widths<A: Allocator>(
 /// Appends what makes each of the first tables that is wanted, or that one reads that is made, in order.
 fn push_tables<A: Allocator>(
     text: &mut Vec<u8>,
-    request: Request<'_>,
+    style: Style,
     inputs: &[Input],
     made: &[Query<'_, A>],
     widths: &[u64],
@@ -102,7 +150,7 @@ fn push_tables<A: Allocator>(
     count: usize,
 ) -> Result<(), NoMemory>
     requires count { count ≤ length made.now }
-    ensures { OnOk result (text.new.items ≡ text.old.items ++ tables_text request.entry.form request.entry.epochs (map plain_input inputs.now)
+    ensures { OnOk result (text.new.items ≡ text.old.items ++ tables_text style.form style.epochs style.making (map plain_input inputs.now)
         (width_in (map plain_input inputs.now) widths.now) wanted.old.items (made_of (take count made.now))) }
 {
     if count == 0 {
@@ -110,41 +158,104 @@ fn push_tables<A: Allocator>(
     }
     let number = count - 1;
     if !is_in(number as u64, wanted) {
-        return push_tables(text, request, inputs, made, widths, wanted, number);
+        return push_tables(text, style, inputs, made, widths, wanted, number);
     }
     let query = &made[number];
     push_reads(wanted, query)?;
-    push_tables(text, request, inputs, made, widths, wanted, number)?;
-    let width = table_width(inputs, widths, Table::Made(number as u64));
-    push_create(
-        text,
-        request.form,
-        request.epochs,
-        inputs,
-        number as u64,
-        width,
-        query,
-    )
+    push_tables(text, style, inputs, made, widths, wanted, number)?;
+    push_create(text, style, inputs, widths, number as u64, query)
+}
+
+/// Appends an output's name.
+fn push_title(text: &mut Vec<u8>, name: &Name) -> Result<(), NoMemory>
+    ensures { OnOk result (text.new.items ≡ text.old.items ++ title_text name.now) }
+{
+    push(text, b"-- ")?;
+    push(text, name.bytes())?;
+    push(text, b"\n")
+}
+
+/// Appends an output's name, if the output is asked for.
+fn push_title_if_asked(
+    text: &mut Vec<u8>,
+    asked: Option<&[u8]>,
+    name: &Name,
+) -> Result<(), NoMemory>
+    ensures { OnOk result (text.new.items ≡ text.old.items ++ cond (is_asked (option_map (λ s. s.now) asked.entry) name.now) (title_text name.now) []) }
+{
+    if is_asked(asked, name) {
+        push_title(text, name)
+    } else {
+        Ok(())
+    }
+}
+
+/// Appends the names of the outputs that are asked for.
+fn push_names<A: Allocator>(
+    text: &mut Vec<u8>,
+    asked: Option<&[u8]>,
+    results: &[Table],
+    outputs: &[Output<A>],
+) -> Result<(), NoMemory>
+    ensures { OnOk result (text.new.items ≡ text.old.items
+        ++ names_text (option_map (λ s. s.now) asked.entry) (map shown_table results.now) (plain_outputs outputs.now)) }
+{
+    match results {
+        [] => Ok(()),
+        [_, results @ ..] => match outputs {
+            [] => Ok(()),
+            [output, outputs @ ..] => {
+                push_title_if_asked(text, asked, &output.name)?;
+                push_names(text, asked, results, outputs)
+            }
+        },
+    }
+}
+
+/// Appends the names that stand before the tables.
+fn push_titles<A: Allocator>(
+    text: &mut Vec<u8>,
+    layout: Layout,
+    asked: Option<&[u8]>,
+    results: &[Table],
+    outputs: &[Output<A>],
+) -> Result<(), NoMemory>
+    ensures { OnOk result (text.new.items ≡ text.old.items
+        ++ titles_text layout (option_map (λ s. s.now) asked.entry) (map shown_table results.now) (plain_outputs outputs.now)) }
+{
+    match layout {
+        Layout::Script => Ok(()),
+        Layout::Statement => push_names(text, asked, results, outputs),
+    }
+}
+
+/// Appends an output's name, if it stands before the rows.
+fn push_row_title(text: &mut Vec<u8>, layout: Layout, name: &Name) -> Result<(), NoMemory>
+    ensures { OnOk result (text.new.items ≡ text.old.items ++ row_title layout name.now) }
+{
+    match layout {
+        Layout::Script => push_title(text, name),
+        Layout::Statement => Ok(()),
+    }
 }
 
 /// Appends what gives the rows of an output's table, in order.
 fn push_result(
     text: &mut Vec<u8>,
-    dialect: Dialect,
-    epochs: Epochs,
+    request: Request<'_>,
     inputs: &[Input],
     width: u64,
     table: Table,
     name: &Name,
 ) -> Result<(), NoMemory>
-    ensures { OnOk result (text.new.items ≡ text.old.items ++ result_text dialect epochs (map plain_input inputs.now) width (shown_table table) name.now) }
+    ensures { OnOk result (text.new.items ≡ text.old.items ++ result_text (layout_of (asked_of request.entry)) (dialect_of request.entry.form)
+        request.entry.epochs (map plain_input inputs.now) width (shown_table table) name.now) }
 {
-    push(text, b"-- ")?;
-    push(text, name.bytes())?;
-    push(text, b"\nSELECT * FROM ")?;
-    push_table(text, dialect, inputs, table)?;
+    push_row_title(text, request.layout(), name)?;
+    push(text, b"SELECT * FROM ")?;
+    push_table(text, request.form.dialect(), inputs, table)?;
     push(text, b" ORDER BY ")?;
-    push_places(text, epochs, width)?;
+    push_places(text, request.epochs, width)?;
     push(text, b";\n")
 }
 
@@ -158,22 +269,14 @@ fn push_if_asked(
     name: &Name,
 ) -> Result<(), NoMemory>
     ensures { OnOk result (text.new.items ≡ text.old.items ++ cond (is_asked (asked_of request.entry).output name.now)
-        (result_text (dialect_of request.entry.form) request.entry.epochs (map plain_input inputs.now)
+        (result_text (layout_of (asked_of request.entry)) (dialect_of request.entry.form) request.entry.epochs (map plain_input inputs.now)
         (width_in (map plain_input inputs.now) widths.now (shown_table table)) (shown_table table) name.now) []) }
 {
     if !is_asked(request.output, name) {
         return Ok(());
     }
     let width = table_width(inputs, widths, table);
-    push_result(
-        text,
-        request.form.dialect(),
-        request.epochs,
-        inputs,
-        width,
-        table,
-        name,
-    )
+    push_result(text, request, inputs, width, table, name)
 }
 
 /// Appends what gives the rows of each output that is asked for, in order.
@@ -186,8 +289,8 @@ fn push_results<A: Allocator>(
     outputs: &[Output<A>],
 ) -> Result<(), NoMemory>
     ensures { OnOk result (text.new.items ≡ text.old.items
-        ++ results_text (dialect_of request.entry.form) request.entry.epochs (map plain_input inputs.now) (width_in (map plain_input inputs.now) widths.now)
-        (asked_of request.entry).output (map shown_table results.now) (plain_outputs outputs.now)) }
+        ++ results_text (layout_of (asked_of request.entry)) (dialect_of request.entry.form) request.entry.epochs (map plain_input inputs.now)
+        (width_in (map plain_input inputs.now) widths.now) (asked_of request.entry).output (map shown_table results.now) (plain_outputs outputs.now)) }
 {
     match results {
         [] => Ok(()),
@@ -245,24 +348,20 @@ fn push_inputs(
 }
 
 /// Appends what stands before the tables.
-fn push_head(
-    text: &mut Vec<u8>,
-    form: Form,
-    epochs: Epochs,
-    inputs: &[Input],
-) -> Result<(), NoMemory>
-    ensures { OnOk result (text.new.items ≡ text.old.items ++ head_text form epochs (map plain_input inputs.now)) }
+fn push_head(text: &mut Vec<u8>, request: Request<'_>, inputs: &[Input]) -> Result<(), NoMemory>
+    ensures { OnOk result (text.new.items ≡ text.old.items
+        ++ head_text request.entry.form (layout_of (asked_of request.entry)) request.entry.epochs (map plain_input inputs.now)) }
 {
-    let dialect = form.dialect();
+    let dialect = request.form.dialect();
     push(text, b"-- A query as SQL, for ")?;
     push(text, dialect.database_name())?;
-    push(text, epochs.reads_text())?;
-    push_inputs(text, dialect, epochs, inputs)?;
-    push(text, form.arithmetic().promise_text())?;
-    push(text, dialect.begin_text())
+    push(text, request.epochs.reads_text())?;
+    push_inputs(text, dialect, request.epochs, inputs)?;
+    push(text, request.form.arithmetic().promise_text())?;
+    push(text, request.layout().opening_text(dialect))
 }
 
-/// The text of a program's script.
+/// The text of a program's script or statement.
 fn text_of<A: Allocator>(
     alloc: Global,
     program: &Program<A>,
@@ -270,17 +369,25 @@ fn text_of<A: Allocator>(
 ) -> Result<Vec<u8>, NoMemory>
     ensures { IfOk result (λ t. t.items ≡ script_text (asked_of request.entry) (plain_program (program_tree program.now))) }
 {
-    let script = make_script(alloc, program)?;
+    let script = make_script(alloc, request.form.dialect().has_recursion(), program)?;
     let inputs = &program.inputs;
     let outputs = &program.outputs;
     let widths = table_widths(alloc, inputs, &script.made)?;
     let mut wanted = Vec::new(alloc);
     push_asked(&mut wanted, request.output, &script.results, outputs)?;
+    let layout = request.layout();
+    let style = Style {
+        form: request.form,
+        epochs: request.epochs,
+        making: layout.making(&wanted),
+    };
     let mut text = Vec::new(alloc);
-    push_head(&mut text, request.form, request.epochs, inputs)?;
+    push_head(&mut text, request, inputs)?;
+    push_titles(&mut text, layout, request.output, &script.results, outputs)?;
+    push(&mut text, style.making.with_text())?;
     push_tables(
         &mut text,
-        request,
+        style,
         inputs,
         &script.made,
         &widths,
@@ -295,21 +402,22 @@ fn text_of<A: Allocator>(
         &script.results,
         outputs,
     )?;
-    push(&mut text, request.form.dialect().end_text())?;
+    push(&mut text, layout.closing_text(request.form.dialect()))?;
     Ok(text)
 }
 
-/// The place that is told where no output has the name: that of the first output's.
-fn outputs_place<A: Allocator>(program: &Program<A>) -> Span {
-    match program.outputs.first() {
+/// The place of the name of the output with that number, from 0.
+fn output_place<A: Allocator>(program: &Program<A>, number: usize) -> Span {
+    match program.outputs.get(number) {
         Some(output) => output.name_span,
         None => Span { start: 0, end: 0 },
     }
 }
 
 /// The text of a program's script: each table that its outputs need, then the rows of each output, in order; or of the one output that is asked for. It
-/// is refused where no output has that name, at the name of the first. A program that takes more than 4096 tables is refused, at the name of the let
-/// or output where they become too many. A loop takes its body's tables at each turn.
+/// is refused where no output has that name, at the name of the first, and where one statement is asked for of several outputs, at the name of the
+/// second. A program that takes more than 4096 tables is refused, at the name of the let or output where they become too many. A loop takes its
+/// body's tables at each turn, unless it is a closure that becomes one recursive table.
 pub fn sql_text<A: Allocator>(
     alloc: Global,
     program: &Program<A>,
@@ -317,15 +425,22 @@ pub fn sql_text<A: Allocator>(
 ) -> Result<Vec<u8>, Refusal>
     ensures text { IfOk result (λ t. t.items ≡ script_text (asked_of request.entry) (plain_program (program_tree program.now))) }
     ensures output { IfOk result (λ t. has_output (asked_of request.entry).output (plain_program (program_tree program.now)).outputs ≡ true) }
-    ensures refusal { IfErr result (IsSqlRefusal (asked_of request.entry).output (plain_program (program_tree program.now))) }
+    ensures layout { IfOk result (λ t. has_layout (asked_of request.entry) (plain_program (program_tree program.now)).outputs ≡ true) }
+    ensures refusal { IfErr result (IsSqlRefusal (asked_of request.entry) (plain_program (program_tree program.now))) }
 {
     if !has_output(request.output, &program.outputs) {
         return Err(Refusal::At {
             code: NO_SUCH_OUTPUT,
-            span: outputs_place(program),
+            span: output_place(program, 0),
         });
     }
-    match count_program(program) {
+    if !has_layout(request.layout(), request.output, &program.outputs) {
+        return Err(Refusal::At {
+            code: SEVERAL_OUTPUTS,
+            span: output_place(program, 1),
+        });
+    }
+    match count_program(request.form.dialect().has_recursion(), program) {
         Ok(_) => {}
         Err(span) => {
             return Err(Refusal::At {

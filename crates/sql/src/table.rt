@@ -15,6 +15,16 @@ pub enum Table {
     Made(u64),
 }
 
+/// What a turn of a recursive table makes of the rows that the turn before found, with the parts of the tree that it is written from.
+#[derive(Drop)]
+pub enum Term<'a, A: Allocator> {
+    Latest,
+    Select(&'a [Scalar<A>], Box<Term<'a, A>>),
+    Where(Box<Term<'a, A>>, &'a Cond<A>),
+    JoinLeft(Box<Term<'a, A>>, Table, &'a [Pair]),
+    JoinRight(Table, Box<Term<'a, A>>, &'a [Pair]),
+}
+
 /// The query that makes a table, over tables before it, with the parts of the tree that it is written from.
 #[derive(Drop)]
 pub enum Query<'a, A: Allocator> {
@@ -24,6 +34,8 @@ pub enum Query<'a, A: Allocator> {
     Group(&'a [Column], &'a [Agg], Table),
     Distinct(Table),
     SetOperation(SetOperator, Table, Table),
+    /// The turns, the start and the recursive term.
+    Recursive(u64, Table, Term<'a, A>),
 }
 
 /// The tables that a script makes, in order, and those that hold the outputs' rows.

@@ -17,16 +17,23 @@ use std::alloc::{Allocator, Global};
 /// The script of a program: the tables of its lets, then those of its outputs.
 pub fn make_script<'a, A: Allocator>(
     alloc: Global,
+    recursive: bool,
     program: &'a Program<A>,
 ) -> Result<Script<'a, A>, NoMemory>
-    ensures { IfOk result (λ s. shown_script s ≡ script_of (plain_program (program_tree program.now))) }
+    ensures { IfOk result (λ s. shown_script s ≡ script_of recursive (plain_program (program_tree program.now))) }
 {
     let mut scope = Scope::new(alloc, program.inputs.len() as u64);
     let mut made = Vec::new(alloc);
     let mut results = Vec::new(alloc);
     bind_inputs(&program.inputs, 0, &mut scope)?;
-    write_lets(&program.lets, &mut scope, &mut made)?;
-    write_outputs(&program.outputs, &mut scope, &mut made, &mut results)?;
+    write_lets(recursive, &program.lets, &mut scope, &mut made)?;
+    write_outputs(
+        recursive,
+        &program.outputs,
+        &mut scope,
+        &mut made,
+        &mut results,
+    )?;
     Ok(Script { made, results })
 }
 
@@ -47,16 +54,17 @@ fn bind_inputs(inputs: &[Input], first: u64, scope: &mut Scope) -> Result<(), No
 
 /// Makes the tables of lets in order; in the scope each name then stands for the one that holds its relation's rows.
 fn write_lets<'a, A: Allocator>(
+    recursive: bool,
     lets: &'a [Let<A>],
     scope: &mut Scope,
     made: &mut Vec<Query<'a, A>>,
 ) -> Result<(), NoMemory>
-    ensures { OnOk result (after_lets (plain_lets lets.now) (record { names = names_of scope.old; tables = made_of made.old.items })
+    ensures { OnOk result (after_lets recursive (plain_lets lets.now) (record { names = names_of scope.old; tables = made_of made.old.items })
         ≡ record { names = names_of scope.new; tables = made_of made.new.items }) }
 {
     for i in 0..lets.len() {
         let item = &lets[i];
-        let table = write_rel(&item.relation, scope, made)?;
+        let table = write_rel(recursive, &item.relation, scope, made)?;
         scope.bind(&item.name, table)?;
     }
     Ok(())
@@ -64,21 +72,22 @@ fn write_lets<'a, A: Allocator>(
 
 /// Makes the tables of outputs in order, at most 16, and adds those that hold their rows to `results`.
 fn write_outputs<'a, A: Allocator>(
+    recursive: bool,
     outputs: &'a [Output<A>],
     scope: &mut Scope,
     made: &mut Vec<Query<'a, A>>,
     results: &mut Vec<Table>,
 ) -> Result<(), NoMemory>
-    ensures made { OnOk result ((written_outputs (plain_outputs outputs.now) (names_of scope.old) (made_of made.old.items)).tables ≡ made_of made.new.items) }
+    ensures made { OnOk result ((written_outputs recursive (plain_outputs outputs.now) (names_of scope.old) (made_of made.old.items)).tables ≡ made_of made.new.items) }
     ensures results { OnOk result (map shown_table results.new.items ≡
-        map shown_table results.old.items ++ (written_outputs (plain_outputs outputs.now) (names_of scope.old) (made_of made.old.items)).results) }
+        map shown_table results.old.items ++ (written_outputs recursive (plain_outputs outputs.now) (names_of scope.old) (made_of made.old.items)).results) }
 {
     match outputs {
         [] => Ok(()),
         [output, rest @ ..] => {
-            let table = write_rel(&output.relation, scope, made)?;
+            let table = write_rel(recursive, &output.relation, scope, made)?;
             results.push(table)?;
-            write_outputs(rest, scope, made, results)
+            write_outputs(recursive, rest, scope, made, results)
         }
     }
 }

@@ -7,16 +7,16 @@ use mir.Syntax.{w64}
 use Rattle.std.proofs.lemmas.Bool.Decides.{Decides-int_eq}
 use mathlib.Core.Path.{fun_ext}
 use Rattle.semantics.specs.Multiset.{Record, same, one_if, count, is_present, each_once, ◌≈◌}
-use Rattle.semantics.specs.Meaning.{project, program_meaning}
+use Rattle.semantics.specs.Meaning.{project, program_meaning, Found, only_left}
 use Rattle.semantics.specs.Query.{Pair, Program}
 use Rattle.semantics.proofs.MultisetSums.{≈-from, ≈-trans}
-use Rattle.sql_meaning.specs.Script.{Table, Aggregate, Query, Script}
-use Rattle.sql_meaning.specs.ScriptMeaning.{evaluated, is_true, row_pairs, is_joined, aggregated, group_row, Contents, rows_of, contents, answers}
+use Rattle.sql_meaning.specs.Script.{Table, Aggregate, Term, Query, Script}
+use Rattle.sql_meaning.specs.ScriptMeaning.{evaluated, is_true, row_pairs, is_joined, joined_rows, aggregated, group_row, Contents, term_rows, found_by, rows_of, contents, answers}
 use Rattle.sql_meaning.specs.Translation.{script_of, HaveWords}
-use Rattle.sql_meaning.specs.Epochs.{epoch_of, fields_of, HaveEpochs, rows_at, epoch_and, group_row_by_epoch, rows_by_epoch, contents_by_epoch, answers_by_epoch}
+use Rattle.sql_meaning.specs.Epochs.{epoch_of, fields_of, HaveEpochs, rows_at, epoch_and, group_row_by_epoch, term_rows_by_epoch, rows_by_epoch, contents_by_epoch, answers_by_epoch}
 use Rattle.sql_meaning.proofs.Forms.{filter-append, map-append}
 use Rattle.sql_meaning.proofs.Programs.{script_means}
-use Rattle.sql_meaning.proofs.RowsWithEpochs.{HasEpoch, HoldEpochs, have_filter, agrees, beside, keys_have, mapped_have, contents_have}
+use Rattle.sql_meaning.proofs.RowsWithEpochs.{HasEpoch, HoldEpochs, have_filter, agrees, beside, keys_have, mapped_have, term_have, found_have, contents_have}
 
 -- ---- the rows of one epoch
 
@@ -202,6 +202,41 @@ module _ (e : ℤ) where
           ∙ map-append whole (filter (fits ps) (map (λ b. (fields_of x, b)) (at ys))) (filter (fits ps) (row_pairs (at xs) (at ys))))
       by false t i = ap₂ (λ l r. l ++ r) (with_none ps x h.0 t ys) i
 
+  -- ---- recursive tables
+
+  at_left : (xs ys : List Record) → HaveEpochs xs → HaveEpochs ys → at (only_left xs ys) ≡ only_left (at xs) (at ys)
+  at_left xs ys h k =
+      at_once (filter (λ r. not (is_present r ys)) xs) (have_filter (λ r. not (is_present r ys)) xs h)
+      ∙ ap each_once (at_filter (λ r. not (is_present r ys)) (λ r. not (is_present r (at ys))) (λ r l s. ap not (at_present ys k r l s)) xs h)
+
+  pub term_apart : (m : Term) (holds : Contents) → HoldEpochs holds → (xs : List Record) → HaveEpochs xs → at (term_rows_by_epoch m holds xs) ≡ term_rows m (λ t. at (holds t)) (at xs)
+  term_apart Term.latest holds h xs k = refl
+  term_apart (Term.select es m) holds h xs k =
+      at_map (λ r. epoch_of r ∷ map (λ x. evaluated x (fields_of r)) es) (λ r. map (λ x. evaluated x r) es) (λ r l. refl) (λ r l s. refl) (term_rows_by_epoch m holds xs) (term_have m holds h xs k)
+      ∙ ap (map (λ r. map (λ x. evaluated x r) es)) (term_apart m holds h xs k)
+  term_apart (Term.select_where m c) holds h xs k =
+      at_filter (λ r. is_true c (fields_of r)) (is_true c) (λ r l s. refl) (term_rows_by_epoch m holds xs) (term_have m holds h xs k)
+      ∙ ap (filter (is_true c)) (term_apart m holds h xs k)
+  term_apart (Term.join_left m t ps) holds h xs k =
+      at_join ps (term_rows_by_epoch m holds xs) (term_have m holds h xs k) (holds t) ∙ ap (λ ys. joined_rows ps ys (at (holds t))) (term_apart m holds h xs k)
+  term_apart (Term.join_right t m ps) holds h xs k =
+      at_join ps (holds t) (h t) (term_rows_by_epoch m holds xs) ∙ ap (joined_rows ps (at (holds t))) (term_apart m holds h xs k)
+
+  pub record FoundApart (s u : Found) : Type 0 where
+    pub all : at s.all ≡ u.all
+    pub latest : at s.latest ≡ u.latest
+
+  pub found_apart : (f g : List Record → List Record) → ((xs : List Record) → HaveEpochs xs → HaveEpochs (f xs)) → ((xs : List Record) → HaveEpochs xs → at (f xs) ≡ g (at xs)) → (n : ℕ) (xs : List Record) → HaveEpochs xs → FoundApart (found_by f n xs) (found_by g n (at xs))
+  found_apart f g k apart zero xs h = record { all = at_once xs h; latest = at_once xs h }
+  found_apart f g k apart (suc n) xs h =
+      let s = found_by f n xs in
+      let u = found_by g n (at xs) in
+      let have = found_have f k n xs h in
+      let before = found_apart f g k apart n xs h in
+      let new : at (only_left (f s.latest) s.all) ≡ only_left (g u.latest) u.all =
+      at_left (f s.latest) s.all (k s.latest have.latest) have.all ∙ ap₂ only_left (apart s.latest have.latest ∙ ap g before.latest) before.all in
+      record { all = at_append s.all (only_left (f s.latest) s.all) ∙ ap₂ (λ l r. l ++ r) before.all new; latest = new }
+
   -- ---- queries and scripts
 
   pub rows_apart : (q : Query) (holds : Contents) → HoldEpochs holds → at (rows_by_epoch q holds) ≡ rows_of q (λ t. at (holds t))
@@ -212,12 +247,12 @@ module _ (e : ℤ) where
   rows_apart (Query.select_group ks as' t) holds h = at_groups ks as' (holds t) (h t)
   rows_apart (Query.select_distinct t) holds h = at_once (holds t) (h t)
   rows_apart (Query.union_all t u) holds h = at_append (holds t) (holds u)
-  rows_apart (Query.except t u) holds h =
-      at_once (filter (λ r. not (is_present r (holds u))) (holds t)) (have_filter (λ r. not (is_present r (holds u))) (holds t) (h t))
-      ∙ ap each_once (at_filter (λ r. not (is_present r (holds u))) (λ r. not (is_present r (at (holds u)))) (λ r k s. ap not (at_present (holds u) (h u) r k s)) (holds t) (h t))
+  rows_apart (Query.except t u) holds h = at_left (holds t) (holds u) (h t) (h u)
   rows_apart (Query.intersect t u) holds h =
       at_once (filter (λ r. is_present r (holds u)) (holds t)) (have_filter (λ r. is_present r (holds u)) (holds t) (h t))
       ∙ ap each_once (at_filter (λ r. is_present r (holds u)) (λ r. is_present r (at (holds u))) (λ r k s. at_present (holds u) (h u) r k s) (holds t) (h t))
+  rows_apart (Query.recursive n t m) holds h =
+      (found_apart (term_rows_by_epoch m holds) (term_rows m (λ t. at (holds t))) (term_have m holds h) (term_apart m holds h) n (holds t) (h t)).all
 
   at_given : (tables : List (List Record)) (i : ℕ) → slice_index_or (map at tables) i [] ≡ at (slice_index_or tables i [])
   at_given [] i = refl
@@ -267,10 +302,10 @@ as_many : (e : ℤ) (ts : List (List Record)) → length (map (rows_at e) ts) �
 as_many e [] = refl
 as_many e (t ∷ ts) = ap (λ n. suc n) (as_many e ts)
 
-pub epochs_apart : (p : Program) (output : ℕ) (tables : List (List Record)) (e : ℤ) → length tables ≡ length p.inputs → AllByRecursion HaveWords tables → AllByRecursion HaveEpochs tables →
-    rows_at e (slice_index_or (answers_by_epoch (script_of p) tables) output []) ≈ program_meaning p output (λ i. rows_at e (slice_index_or tables i []))
-epochs_apart p output tables e l w h =
-    let means : slice_index_or (answers (script_of p) (map (rows_at e) tables)) output [] ≈ program_meaning p output (λ i. slice_index_or (map (rows_at e) tables) i []) =
-    script_means p output (map (rows_at e) tables) (as_many e tables ∙ l) (tables_words e tables w) in
+pub epochs_apart : (recursive : Bool) (p : Program) (output : ℕ) (tables : List (List Record)) (e : ℤ) → length tables ≡ length p.inputs → AllByRecursion HaveWords tables → AllByRecursion HaveEpochs tables →
+    rows_at e (slice_index_or (answers_by_epoch (script_of recursive p) tables) output []) ≈ program_meaning p output (λ i. rows_at e (slice_index_or tables i []))
+epochs_apart recursive p output tables e l w h =
+    let means : slice_index_or (answers (script_of recursive p) (map (rows_at e) tables)) output [] ≈ program_meaning p output (λ i. slice_index_or (map (rows_at e) tables) i []) =
+    script_means recursive p output (map (rows_at e) tables) (as_many e tables ∙ l) (tables_words e tables w) in
     let names : (λ (i : ℕ). slice_index_or (map (rows_at e) tables) i []) ≡ (λ i. rows_at e (slice_index_or tables i [])) = fun_ext (at_given e tables) in
-    ≈-trans (≈-from (answers_apart e tables h (script_of p) output)) (≈-trans means (≈-from (ap (program_meaning p output) names)))
+    ≈-trans (≈-from (answers_apart e tables h (script_of recursive p) output)) (≈-trans means (≈-from (ap (program_meaning p output) names)))

@@ -1,14 +1,18 @@
 -- The script of a well-typed program is well formed.
-use Rattle.std.proofs.Common.{◌≡◌, ℕ, zero, suc, ◌+◌, ◌<◌, Bool, true, false, cond, List, [], ◌∷◌, map, length, slice_index_or, Some, None, Option, refl, sym, ap, ap₂, subst, ◌∙◌, arith, ne_eqb, inl, inr, ◌⊎◌}
+use Rattle.std.proofs.Common.{◌≡◌, ℕ, zero, suc, ◌+◌, ◌<◌, Bool, true, false, cond, not, List, [], ◌∷◌, map, length, slice_index_or, Some, None, Option, refl, sym, ap, ap₂, subst, ◌∙◌, arith, ne_eqb, inl, inr, ◌⊎◌}
 use Rattle.std.specs.List.{AllByRecursion}
+use Rattle.std.proofs.lemmas.Bool.{true≢false}
 use Rattle.semantics.proofs.NamesAmong.{Decides-same_name}
+use Rattle.semantics.proofs.RulesKeepArity.{arity_free}
+use Rattle.semantics.specs.FreeNames.{free, has}
 use Rattle.semantics.specs.Meaning.{same_name, repeated}
 use Rattle.semantics.specs.Query.{Scalar, Cond, Agg, Pair, Name, Loop, Rel, Input, Let, Output, Program}
 use Rattle.semantics.specs.Typing.{ScalarFits, CondFits, AggFits, lookup, entry, HasArity, InputsFit, after_inputs, OutputsFit, RestFits, WellTyped}
 use Rattle.semantics.specs.Typing.{Scope as Arities}
-use Rattle.sql_meaning.specs.Script.{Table, Query, Written, Script}
-use Rattle.sql_meaning.specs.WellFormed.{query_width, widths, IsReadable, ExpressionFits, SearchFits, AggregateFits, QueryFits, TablesFit, ResultsFit, IsWellFormed}
-use Rattle.sql_meaning.specs.Translation.{expression, search, aggregate_of, Tables, stands, then_query, Finding, finding_first, finding_next, written_loop, written, input_tables, Scope, after_lets, written_outputs, script_of}
+use Rattle.sql_meaning.specs.Script.{Table, Term, Query, Written, Script}
+use Rattle.sql_meaning.specs.WellFormed.{query_width, term_width, widths, IsReadable, ExpressionFits, SearchFits, AggregateFits, PairsFit, TermFits, QueryFits, TablesFit, ResultsFit, IsWellFormed}
+use Rattle.sql_meaning.specs.Translation.{expression, search, aggregate_of, Tables, stands, then_query, Finding, finding_first, finding_next, written_loop, is_linear, is_recursion, WrittenTerm, written, written_term, input_tables, Scope, after_lets, written_outputs, script_of}
+use Rattle.sql_meaning.proofs.LinearBodies.{not_free, is_absent, left_linear, right_linear, of_recursion}
 use Rattle.sql_meaning.proofs.Relations.{self_equal}
 
 -- ---- expressions
@@ -111,11 +115,11 @@ module _ (given : List ℕ) where
   two qs s t l m n q a b h e = one_more qs t.tables q n b.fit (λ u k g. b.kept u k (a.kept u k g)) h e
 
   -- what a loop's body makes, where its variable stands for a table
-  abbrev Turn : Type 0
+  abbrev pub Turn : Type 0
   Turn = Table → List Query → Written
 
   -- one turn on a table of n columns
-  abbrev TurnAdds : List Query → ℕ → Turn → Type 0
+  abbrev pub TurnAdds : List Query → ℕ → Turn → Type 0
   TurnAdds qs n turn = (s : Written) → Adds qs s n → Adds s.tables (turn s.result s.tables) n
 
   iterated : (qs : List Query) (n : ℕ) (turn : Turn) → TurnAdds qs n turn → (a : Written) → Adds qs a n → (k : ℕ) → Adds qs (repeated (λ (s : Written). turn s.result s.tables) k a) n
@@ -152,77 +156,194 @@ module _ (given : List ℕ) where
       record { all = d; latest = d }
   closed qs n turn h a e (suc k) = finds_next qs n turn h _ (closed qs n turn h a e k)
 
-  loop_adds : (qs : List Query) (n : ℕ) (turn : Turn) → TurnAdds qs n turn → (a : Written) → Adds qs a n → (l : Loop) (k : ℕ) → Adds qs (written_loop l k turn a) n
+  pub loop_adds : (qs : List Query) (n : ℕ) (turn : Turn) → TurnAdds qs n turn → (a : Written) → Adds qs a n → (l : Loop) (k : ℕ) → Adds qs (written_loop l k turn a) n
   loop_adds qs n turn h a e Loop.iterate k = iterated qs n turn h a e k
   loop_adds qs n turn h a e Loop.closure k = (closed qs n turn h a e k).all
 
-  pub written_fits : (r : Rel) (scope : Arities) (d n : ℕ) (tables : Tables) (qs : List Query) → HasArity r scope d n → TablesFit given qs → Known scope tables qs → Adds qs (written r tables qs) n
-  unfolding HasArity written
-  written_fits (Rel.named x) scope d n tables qs h f k = record { fit = f; kept = λ t m g. g; good = k x n h }
-  written_fits (Rel.select r ss) scope d n tables qs h f k =
-      let s = written r tables qs in
-      let a = written_fits r scope d h.0 tables qs h.1 f k in
-      one_more qs s.tables (Query.select (map expression ss) s.result) n a.fit a.kept
-      (a.good.readable, at_width (λ w. AllByRecursion (ExpressionFits w) (map expression ss)) s.tables s.result h.0 a.good (expressions_fit h.0 ss h.2))
-      (length-expressions ss ∙ sym h.3)
-  written_fits (Rel.filter r c) scope d n tables qs h f k =
-      let s = written r tables qs in
-      let a = written_fits r scope d n tables qs h.0 f k in
-      one_more qs s.tables (Query.select_where s.result (search c)) n a.fit a.kept
-      (a.good.readable, at_width (λ w. SearchFits w (search c)) s.tables s.result n a.good (search_fits n c h.1))
-      a.good.wide
-  written_fits (Rel.concat p q) scope d n tables qs h f k =
-      let s = written p tables qs in
-      let t = written q tables s.tables in
-      let a = written_fits p scope d n tables qs h.0 f k in
-      let b = written_fits q scope d n tables s.tables h.1 a.fit (known_later scope tables qs s n k a) in
-      let left = b.kept s.result n a.good in
-      two qs s t n n n (Query.union_all s.result t.result) a b (left.readable, b.good.readable, left.wide ∙ sym b.good.wide) left.wide
-  written_fits (Rel.join p q ps) scope d n tables qs h f k =
-      let s = written p tables qs in
-      let t = written q tables s.tables in
-      let a = written_fits p scope d h.0 tables qs h.2 f k in
-      let b = written_fits q scope d h.1 tables s.tables h.3 a.fit (known_later scope tables qs s h.0 k a) in
-      let left = b.kept s.result h.0 a.good in
-      two qs s t h.0 h.1 n (Query.select_join s.result t.result ps) a b (
-        left.readable,
-        b.good.readable,
-        at_width (λ w. AllByRecursion (λ (x : Pair). (x.left < w) × (x.right < widths t.tables given t.result)) ps) t.tables s.result h.0 left
-            (at_width (λ w. AllByRecursion (λ (x : Pair). (x.left < h.0) × (x.right < w)) ps) t.tables t.result h.1 b.good h.4),
-      )
-      (ap₂ (λ l m. l + m) left.wide b.good.wide ∙ sym h.5)
-  written_fits (Rel.group r ks as') scope d n tables qs h f k =
-      let s = written r tables qs in
-      let a = written_fits r scope d h.0 tables qs h.1 f k in
-      one_more qs s.tables (Query.select_group ks (map aggregate_of as') s.result) n a.fit a.kept (
-        a.good.readable,
-        at_width (λ w. AllByRecursion (λ k. k < w) ks) s.tables s.result h.0 a.good h.2,
-        at_width (λ w. AllByRecursion (AggregateFits w) (map aggregate_of as')) s.tables s.result h.0 a.good (aggregates_fit h.0 as' h.3),
-      )
-      (ap (λ l. length ks + l) (length-aggregates as') ∙ sym h.4)
-  written_fits (Rel.distinct r) scope d n tables qs h f k =
-      let s = written r tables qs in
-      let a = written_fits r scope d n tables qs h f k in
-      one_more qs s.tables (Query.select_distinct s.result) n a.fit a.kept a.good.readable a.good.wide
-  written_fits (Rel.except p q) scope d n tables qs h f k =
-      let s = written p tables qs in
-      let t = written q tables s.tables in
-      let a = written_fits p scope d n tables qs h.0 f k in
-      let b = written_fits q scope d n tables s.tables h.1 a.fit (known_later scope tables qs s n k a) in
-      let left = b.kept s.result n a.good in
-      two qs s t n n n (Query.except s.result t.result) a b (left.readable, b.good.readable, left.wide ∙ sym b.good.wide) left.wide
-  written_fits (Rel.intersect p q) scope d n tables qs h f k =
-      let s = written p tables qs in
-      let t = written q tables s.tables in
-      let a = written_fits p scope d n tables qs h.0 f k in
-      let b = written_fits q scope d n tables s.tables h.1 a.fit (known_later scope tables qs s n k a) in
-      let left = b.kept s.result n a.good in
-      two qs s t n n n (Query.intersect s.result t.result) a b (left.readable, b.good.readable, left.wide ∙ sym b.good.wide) left.wide
-  written_fits (Rel.loop l m x r b) scope d n tables qs h f k =
-      loop_adds qs n (λ t made. written b (stands x t tables) made)
-      (λ s e. written_fits b (entry x n ∷ scope) (suc d) n (stands x s.result tables) s.tables h.4 e.fit
-      (known_bound scope tables s.tables x s.result n (known_later scope tables qs s n k e) e.good))
-      (written r tables qs) (written_fits r scope d n tables qs h.2 f k) l m
+  module _ (recursive : Bool) where
+    -- ---- recursive tables
+
+    -- tables that others are added to, and a term over them, of n columns if the recursive table has m, also once more tables are made
+    pub record TermAdds (qs : List Query) (w : WrittenTerm) (m n : ℕ) : Type 0 where
+      pub fit : TablesFit given w.tables
+      pub kept : (t : Table) (k : ℕ) → Good qs t k → Good w.tables t k
+      pub fits : (rs : List Query) → ((t : Table) (k : ℕ) → Good w.tables t k → Good rs t k) → TermFits (length given) (length rs) m (widths rs given) w.term
+      pub wide : (rs : List Query) → ((t : Table) (k : ℕ) → Good w.tables t k → Good rs t k) → term_width w.term m (widths rs given) ≡ n
+
+    either_term : (qs : List Query) (b : Bool) (l r : WrittenTerm) (m n : ℕ) → (b ≡ true → TermAdds qs l m n) → (b ≡ false → TermAdds qs r m n) → TermAdds qs (cond b l r) m n
+    either_term qs true l r m n h k = h refl
+    either_term qs false l r m n h k = k refl
+
+    either_adds : (qs : List Query) (b : Bool) (s t : Written) (n : ℕ) → (b ≡ true → Adds qs s n) → Adds qs t n → Adds qs (cond b s t) n
+    either_adds qs true s t n h k = h refl
+    either_adds qs false s t n h k = k
+
+    pairs_at : (v w l m : ℕ) (ps : List Pair) → v ≡ l → w ≡ m → PairsFit l m ps → PairsFit v w ps
+    pairs_at v w l m ps e f h = subst (λ k. PairsFit k w ps) (sym e) (subst (λ k. PairsFit l k ps) (sym f) h)
+
+    left_adds : (qs : List Query) (a : WrittenTerm) (b : Written) (k l m n : ℕ) (ps : List Pair) → TermAdds qs a k l → Adds a.tables b m → PairsFit l m ps → n ≡ l + m → TermAdds qs (record { tables = b.tables; term = Term.join_left a.term b.result ps }) k n
+    left_adds qs a b k l m n ps g h p e = record {
+      fit = h.fit;
+      kept = λ t j z. h.kept t j (g.kept t j z);
+      fits = λ rs later.
+          let side = later b.result m h.good in
+          let before = λ (t : Table) (j : ℕ) (z : Good a.tables t j). later t j (h.kept t j z) in
+          (g.fits rs before, side.readable, pairs_at (term_width a.term k (widths rs given)) (widths rs given b.result) l m ps (g.wide rs before) side.wide p);
+      wide = λ rs later. ap₂ (λ v w. v + w) (g.wide rs (λ t j z. later t j (h.kept t j z))) (later b.result m h.good).wide ∙ sym e;
+    }
+
+    right_adds : (qs : List Query) (a : Written) (b : WrittenTerm) (k l m n : ℕ) (ps : List Pair) → Adds qs a l → TermAdds a.tables b k m → PairsFit l m ps → n ≡ l + m → TermAdds qs (record { tables = b.tables; term = Term.join_right a.result b.term ps }) k n
+    right_adds qs a b k l m n ps h g p e = record {
+      fit = g.fit;
+      kept = λ t j z. g.kept t j (h.kept t j z);
+      fits = λ rs later.
+          let side = later a.result l (g.kept a.result l h.good) in
+          (side.readable, g.fits rs later, pairs_at (widths rs given a.result) (term_width b.term k (widths rs given)) l m ps side.wide (g.wide rs later) p);
+      wide = λ rs later. ap₂ (λ v w. v + w) (later a.result l (g.kept a.result l h.good)).wide (g.wide rs later) ∙ sym e;
+    }
+
+    -- a relation in which x isn't free has its arity also outside the body
+    pub arity_outside : (x : Name) (q : Rel) (scope : Arities) (m d n : ℕ) → not (has x (free q)) ≡ true → HasArity q (entry x m ∷ scope) d n → HasArity q scope d n
+    arity_outside x q scope m d n e h =
+        arity_free q (entry x m ∷ scope) scope d n (λ y j. ap (λ b. cond b (Some m) (lookup scope y)) (not_free x q (is_absent x q e) y j)) (λ y. none (same_name x y) (lookup scope y)) h
+      where
+        none : (b : Bool) (o : Option ℕ) → cond b (Some m) o ≡ None → o ≡ None
+        none true o e = absurd cc
+        none false o e = e
+
+    pub recursion_adds : (qs : List Query) (x : Name) (b : Rel) (a : Written) (n : ℕ) → Adds qs a n → (m : WrittenTerm) → (is_linear x b ≡ true → TermAdds a.tables m n n) → (l : Loop) (k : ℕ) → is_recursion recursive l k x b ≡ true →
+        Adds qs (then_query m.tables (Query.recursive k a.result m.term)) n
+    recursion_adds qs x b a n start m adds Loop.iterate k e = absurd (true≢false (sym e))
+    recursion_adds qs x b a n start m adds Loop.closure k e =
+        let g = adds (of_recursion recursive k x b e) in
+        let old = g.kept a.result n start.good in
+        one_more qs m.tables (Query.recursive k a.result m.term) n g.fit (λ t j z. g.kept t j (start.kept t j z)) (
+          old.readable,
+          at_width (λ w. TermFits (length given) (length m.tables) w (widths m.tables given) m.term) m.tables a.result n old (g.fits m.tables (λ t j z. z)),
+          at_width (λ w. term_width m.term w (widths m.tables given) ≡ w) m.tables a.result n old (g.wide m.tables (λ t j z. z)),
+        )
+        old.wide
+
+    mutual
+      unfolding HasArity written
+
+      pub written_fits : (r : Rel) (scope : Arities) (d n : ℕ) (tables : Tables) (qs : List Query) → HasArity r scope d n → TablesFit given qs → Known scope tables qs → Adds qs (written recursive r tables qs) n
+      written_fits (Rel.named x) scope d n tables qs h f k = record { fit = f; kept = λ t m g. g; good = k x n h }
+      written_fits (Rel.select r ss) scope d n tables qs h f k =
+          let s = written recursive r tables qs in
+          let a = written_fits r scope d h.0 tables qs h.1 f k in
+          one_more qs s.tables (Query.select (map expression ss) s.result) n a.fit a.kept
+          (a.good.readable, at_width (λ w. AllByRecursion (ExpressionFits w) (map expression ss)) s.tables s.result h.0 a.good (expressions_fit h.0 ss h.2))
+          (length-expressions ss ∙ sym h.3)
+      written_fits (Rel.filter r c) scope d n tables qs h f k =
+          let s = written recursive r tables qs in
+          let a = written_fits r scope d n tables qs h.0 f k in
+          one_more qs s.tables (Query.select_where s.result (search c)) n a.fit a.kept
+          (a.good.readable, at_width (λ w. SearchFits w (search c)) s.tables s.result n a.good (search_fits n c h.1))
+          a.good.wide
+      written_fits (Rel.concat p q) scope d n tables qs h f k =
+          let s = written recursive p tables qs in
+          let t = written recursive q tables s.tables in
+          let a = written_fits p scope d n tables qs h.0 f k in
+          let b = written_fits q scope d n tables s.tables h.1 a.fit (known_later scope tables qs s n k a) in
+          let left = b.kept s.result n a.good in
+          two qs s t n n n (Query.union_all s.result t.result) a b (left.readable, b.good.readable, left.wide ∙ sym b.good.wide) left.wide
+      written_fits (Rel.join p q ps) scope d n tables qs h f k =
+          let s = written recursive p tables qs in
+          let t = written recursive q tables s.tables in
+          let a = written_fits p scope d h.0 tables qs h.2 f k in
+          let b = written_fits q scope d h.1 tables s.tables h.3 a.fit (known_later scope tables qs s h.0 k a) in
+          let left = b.kept s.result h.0 a.good in
+          two qs s t h.0 h.1 n (Query.select_join s.result t.result ps) a b (
+            left.readable,
+            b.good.readable,
+            at_width (λ w. AllByRecursion (λ (x : Pair). (x.left < w) × (x.right < widths t.tables given t.result)) ps) t.tables s.result h.0 left
+                (at_width (λ w. AllByRecursion (λ (x : Pair). (x.left < h.0) × (x.right < w)) ps) t.tables t.result h.1 b.good h.4),
+          )
+          (ap₂ (λ l m. l + m) left.wide b.good.wide ∙ sym h.5)
+      written_fits (Rel.group r ks as') scope d n tables qs h f k =
+          let s = written recursive r tables qs in
+          let a = written_fits r scope d h.0 tables qs h.1 f k in
+          one_more qs s.tables (Query.select_group ks (map aggregate_of as') s.result) n a.fit a.kept (
+            a.good.readable,
+            at_width (λ w. AllByRecursion (λ k. k < w) ks) s.tables s.result h.0 a.good h.2,
+            at_width (λ w. AllByRecursion (AggregateFits w) (map aggregate_of as')) s.tables s.result h.0 a.good (aggregates_fit h.0 as' h.3),
+          )
+          (ap (λ l. length ks + l) (length-aggregates as') ∙ sym h.4)
+      written_fits (Rel.distinct r) scope d n tables qs h f k =
+          let s = written recursive r tables qs in
+          let a = written_fits r scope d n tables qs h f k in
+          one_more qs s.tables (Query.select_distinct s.result) n a.fit a.kept a.good.readable a.good.wide
+      written_fits (Rel.except p q) scope d n tables qs h f k =
+          let s = written recursive p tables qs in
+          let t = written recursive q tables s.tables in
+          let a = written_fits p scope d n tables qs h.0 f k in
+          let b = written_fits q scope d n tables s.tables h.1 a.fit (known_later scope tables qs s n k a) in
+          let left = b.kept s.result n a.good in
+          two qs s t n n n (Query.except s.result t.result) a b (left.readable, b.good.readable, left.wide ∙ sym b.good.wide) left.wide
+      written_fits (Rel.intersect p q) scope d n tables qs h f k =
+          let s = written recursive p tables qs in
+          let t = written recursive q tables s.tables in
+          let a = written_fits p scope d n tables qs h.0 f k in
+          let b = written_fits q scope d n tables s.tables h.1 a.fit (known_later scope tables qs s n k a) in
+          let left = b.kept s.result n a.good in
+          two qs s t n n n (Query.intersect s.result t.result) a b (left.readable, b.good.readable, left.wide ∙ sym b.good.wide) left.wide
+      written_fits (Rel.loop l m x r b) scope d n tables qs h f k =
+          let s = written recursive r tables qs in
+          let start = written_fits r scope d n tables qs h.2 f k in
+          either_adds qs (is_recursion recursive l m x b) _ _ n
+          (λ e. recursion_adds qs x b s n start (written_term recursive x b tables s.tables)
+          (λ g. term_fits x b scope (suc d) n n tables s.tables g h.4 start.fit (known_later scope tables qs s n k start)) l m e)
+          (loop_adds qs n (λ t made. written recursive b (stands x t tables) made)
+          (λ s e. written_fits b (entry x n ∷ scope) (suc d) n (stands x s.result tables) s.tables h.4 e.fit
+          (known_bound scope tables s.tables x s.result n (known_later scope tables qs s n k e) e.good))
+          s start l m)
+
+      pub term_fits : (x : Name) (r : Rel) (scope : Arities) (d m n : ℕ) (tables : Tables) (qs : List Query) → is_linear x r ≡ true → HasArity r (entry x m ∷ scope) d n → TablesFit given qs → Known scope tables qs → TermAdds qs (written_term recursive x r tables qs) m n
+      term_fits x (Rel.named y) scope d m n tables qs e h f k = record {
+        fit = f;
+        kept = λ t j g. g;
+        fits = λ rs later. tt;
+        wide = λ rs later. same_some m n (sym (ap (λ b. cond b (Some m) (lookup scope y)) e) ∙ h);
+      }
+      term_fits x (Rel.select r ss) scope d m n tables qs e h f k =
+          let g = term_fits x r scope d m h.0 tables qs e h.1 f k in
+          let t = written_term recursive x r tables qs in
+          record {
+            fit = g.fit;
+            kept = g.kept;
+            fits = λ rs later. (
+              g.fits rs later,
+              subst (λ w. AllByRecursion (ExpressionFits w) (map expression ss)) (sym (g.wide rs later)) (expressions_fit h.0 ss h.2),
+            );
+            wide = λ rs later. length-expressions ss ∙ sym h.3;
+          }
+      term_fits x (Rel.filter r c) scope d m n tables qs e h f k =
+          let g = term_fits x r scope d m n tables qs e h.0 f k in
+          record {
+            fit = g.fit;
+            kept = g.kept;
+            fits = λ rs later. (g.fits rs later, subst (λ w. SearchFits w (search c)) (sym (g.wide rs later)) (search_fits n c h.1));
+            wide = g.wide;
+          }
+      term_fits x (Rel.concat p q) scope d m n tables qs e h f k = absurd (true≢false (sym e))
+      term_fits x (Rel.join p q ps) scope d m n tables qs e h f k =
+          either_term qs (is_linear x p) _ _ m n
+          (λ j.
+          let s = written_term recursive x p tables qs in
+          let a = term_fits x p scope d m h.0 tables qs j h.2 f k in
+          let b = written_fits q scope d h.1 tables s.tables (arity_outside x q scope m d h.1 (left_linear x p q e j) h.3) a.fit (λ y i z. a.kept (tables y) i (k y i z)) in
+          left_adds qs s (written recursive q tables s.tables) m h.0 h.1 n ps a b h.4 h.5)
+          (λ j.
+          let s = written recursive p tables qs in
+          let i = right_linear x p q e j in
+          let a = written_fits p scope d h.0 tables qs (arity_outside x p scope m d h.0 i.0 h.2) f k in
+          right_adds qs s (written_term recursive x q tables s.tables) m h.0 h.1 n ps a (term_fits x q scope d m h.1 tables s.tables i.1 h.3 a.fit (known_later scope tables qs s h.0 k a)) h.4 h.5)
+      term_fits x (Rel.group r ks as') scope d m n tables qs e h f k = absurd (true≢false (sym e))
+      term_fits x (Rel.distinct r) scope d m n tables qs e h f k = absurd (true≢false (sym e))
+      term_fits x (Rel.except p q) scope d m n tables qs e h f k = absurd (true≢false (sym e))
+      term_fits x (Rel.intersect p q) scope d m n tables qs e h f k = absurd (true≢false (sym e))
+      term_fits x (Rel.loop l i y r b) scope d m n tables qs e h f k = absurd (true≢false (sym e))
 
 -- ---- inputs
 
@@ -238,7 +359,7 @@ kept_arity (a ∷ as') scope y n f h = kept_arity as' (entry a.name a.arity ∷ 
     by true e = absurd (let q : None ≡ Some n = sym f.0 ∙ subst (λ z. lookup scope z ≡ Some n) (sym ((Decides-same_name a.name y).0 e)) h in cc)
     by false e = h
 
-module _ (given : List ℕ) where
+module _ (recursive : Bool) (given : List ℕ) where
   inputs_known : (as' : List Input) (scope : Arities) (i : ℕ) → InputsFit scope as' → length given ≡ i + length as' → ((j : ℕ) → slice_index_or given (i + j) 0 ≡ slice_index_or (arities_of as') j 0) →
       (y : Name) (n : ℕ) → lookup (after_inputs scope as') y ≡ Some n → (lookup scope y ≡ Some n) ⊎ Good given [] (input_tables as' i y) n
   inputs_known [] scope i f l g y n h = inl h
@@ -262,27 +383,27 @@ module _ (given : List ℕ) where
     kept : (t : Table) (m : ℕ) → Good given qs t m → Good given s.tables t m
     results : ResultsFit (length given) (length s.tables) (widths s.tables given) s.results ns
 
-  outputs_formed : (os : List Output) (scope before : Arities) (ns : List ℕ) (names : Tables) (qs : List Query) → OutputsFit scope before os ns → TablesFit given qs → Known given scope names qs → Forms qs (written_outputs os names qs) ns
+  outputs_formed : (os : List Output) (scope before : Arities) (ns : List ℕ) (names : Tables) (qs : List Query) → OutputsFit scope before os ns → TablesFit given qs → Known given scope names qs → Forms qs (written_outputs recursive os names qs) ns
   unfolding written_outputs
   outputs_formed [] scope before [] names qs h f known = record { fit = f; kept = λ t m g. g; results = tt }
   outputs_formed [] scope before (n ∷ ns) names qs h f known = absurd h
   outputs_formed (o ∷ os) scope before [] names qs h f known = absurd h
   outputs_formed (o ∷ os) scope before (n ∷ ns) names qs h f known =
-      let s = written o.value names qs in
-      let a = written_fits given o.value scope 0 n names qs h.0 f known in
+      let s = written recursive o.value names qs in
+      let a = written_fits given recursive o.value scope 0 n names qs h.0 f known in
       let rest = outputs_formed os scope (entry o.name n ∷ before) ns names s.tables h.2 a.fit (known_later given scope names qs s n known a) in
       let good = rest.kept s.result n a.good in
       record { fit = rest.fit; kept = λ t m g. rest.kept t m (a.kept t m g); results = (good.readable, good.wide, rest.results) }
 
   rest_formed : (as' : List Let) (os : List Output) (scope : Arities) (ns : List ℕ) (s : Scope) → RestFits scope as' os ns → TablesFit given s.tables → Known given scope s.names s.tables →
-      IsWellFormed given (written_outputs os (after_lets as' s).names (after_lets as' s).tables) ns
+      IsWellFormed given (written_outputs recursive os (after_lets recursive as' s).names (after_lets recursive as' s).tables) ns
   unfolding after_lets
   rest_formed [] os scope ns s h f known =
       let forms = outputs_formed os scope [] ns s.names s.tables h f known in
       record { tables = forms.fit; results = forms.results }
   rest_formed (a ∷ as') os scope ns s h f known =
-      let w = written a.value s.names s.tables in
-      let e = written_fits given a.value scope 0 h.0 s.names s.tables h.1 f known in
+      let w = written recursive a.value s.names s.tables in
+      let e = written_fits given recursive a.value scope 0 h.0 s.names s.tables h.1 f known in
       rest_formed as' os (entry a.name h.0 ∷ scope) ns (record { names = stands a.name w.result s.names; tables = w.tables }) h.3 e.fit
       (known_bound given scope s.names w.tables a.name w.result h.0 (known_later given scope s.names s.tables w h.0 known e) e.good)
 
@@ -290,13 +411,13 @@ length-arities : (as' : List Input) → length (arities_of as') ≡ length as'
 length-arities [] = refl
 length-arities (a ∷ as') = ap suc (length-arities as')
 
-pub script_formed : (p : Program) (ns : List ℕ) → WellTyped p ns → IsWellFormed (map (λ (a : Input). a.arity) p.inputs) (script_of p) ns
+pub script_formed : (recursive : Bool) (p : Program) (ns : List ℕ) → WellTyped p ns → IsWellFormed (map (λ (a : Input). a.arity) p.inputs) (script_of recursive p) ns
 unfolding script_of
-script_formed p ns t =
-    rest_formed (arities_of p.inputs) p.lets p.outputs (after_inputs [] p.inputs) ns (record { names = input_tables p.inputs 0; tables = [] }) t.rest tt known
+script_formed recursive p ns t =
+    rest_formed recursive (arities_of p.inputs) p.lets p.outputs (after_inputs [] p.inputs) ns (record { names = input_tables p.inputs 0; tables = [] }) t.rest tt known
   where
     known : Known (arities_of p.inputs) (after_inputs [] p.inputs) (input_tables p.inputs 0) []
-    known y n h = by (inputs_known (arities_of p.inputs) p.inputs [] 0 t.inputs (omega (arith, length-arities p.inputs)) (λ j. ap (λ k. slice_index_or (arities_of p.inputs) k 0) (let e : 0 + j ≡ j = omega arith in e)) y n h)
+    known y n h = by (inputs_known recursive (arities_of p.inputs) p.inputs [] 0 t.inputs (omega (arith, length-arities p.inputs)) (λ j. ap (λ k. slice_index_or (arities_of p.inputs) k 0) (let e : 0 + j ≡ j = omega arith in e)) y n h)
       where
         by : (None ≡ Some n) ⊎ Good (arities_of p.inputs) [] (input_tables p.inputs 0 y) n → Good (arities_of p.inputs) [] (input_tables p.inputs 0 y) n
         by (inl e) = absurd (cc)

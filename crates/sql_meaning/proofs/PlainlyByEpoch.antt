@@ -7,15 +7,16 @@ use Rattle.std.proofs.lemmas.Bool.Decides.{Decides-int_eq}
 use mir.Syntax.{w64}
 use mathlib.Core.Path.{fun_ext}
 use Rattle.semantics.specs.Multiset.{Record, same, each_once}
-use Rattle.sql_meaning.specs.Script.{Expression, Search, Aggregate, Query, Script, Table}
-use Rattle.sql_meaning.specs.ScriptMeaning.{evaluated, is_true, aggregated, Contents, with_table}
+use Rattle.semantics.specs.Meaning.{Found}
+use Rattle.sql_meaning.specs.Script.{Expression, Search, Aggregate, Term, Query, Script, Table}
+use Rattle.sql_meaning.specs.ScriptMeaning.{evaluated, is_true, aggregated, Contents, term_rows, found_by, with_table}
 use Rattle.sql_meaning.specs.Plain.{HasNoError}
-use Rattle.sql_meaning.specs.PlainScript.{unwrapped, unwrapped_search, SearchHasNoError, exactly_aggregated, group_value, QueryHasNoError, plain_contents}
-use Rattle.sql_meaning.specs.Epochs.{epoch_of, fields_of, HaveEpochs, rows_at, epoch_and, group_row_by_epoch, rows_by_epoch, contents_by_epoch, answers_by_epoch}
+use Rattle.sql_meaning.specs.PlainScript.{unwrapped, unwrapped_search, unwrapped_term, SearchHasNoError, TermHasNoError, exactly_aggregated, group_value, QueryHasNoError, plain_contents}
+use Rattle.sql_meaning.specs.Epochs.{epoch_of, fields_of, HaveEpochs, rows_at, epoch_and, group_row_by_epoch, joined_by_epoch, term_rows_by_epoch, rows_by_epoch, contents_by_epoch, answers_by_epoch}
 use Rattle.sql_meaning.specs.PlainEpochs.{exact_row_by_epoch, plain_rows_by_epoch, plain_contents_by_epoch, plain_answers_by_epoch, NoEpochHasError}
-use Rattle.sql_meaning.proofs.RightOrError.{items, searched, aggregate_same, contents_same}
-use Rattle.sql_meaning.proofs.EpochsApart.{at_front, at_once, at_keys, of_group, contents_apart}
-use Rattle.sql_meaning.proofs.RowsWithEpochs.{HoldEpochs, keys_have, mapped_have, contents_have}
+use Rattle.sql_meaning.proofs.RightOrError.{items, searched, aggregate_same, unwrapped_items, turns_same, contents_same}
+use Rattle.sql_meaning.proofs.EpochsApart.{at_front, at_once, at_keys, of_group, term_apart, found_apart, contents_apart}
+use Rattle.sql_meaning.proofs.RowsWithEpochs.{HoldEpochs, keys_have, mapped_have, term_have, found_have, contents_have}
 
 -- what holds of the rows of each epoch holds of all rows
 spread : (P : ℤ → Record → Type 0) (xs : List Record) → ((e : ℤ) → AllByRecursion (P e) (rows_at e xs)) → AllByRecursion (λ (r : Record). P (epoch_of r) (fields_of r)) xs
@@ -61,6 +62,40 @@ module _ (ks : List ℕ) (as' : List Aggregate) (xs : List Record) where
   groups ([] ∷ keys) n h = absurd (omega (arith, n.0))
   groups ((z ∷ k) ∷ keys) n h = ap₂ (λ v vs. v ∷ vs) (ap (λ vs. (z ∷ k) ++ vs) (values_same as' z k h.0)) (groups keys n.1 h.1)
 
+-- ---- recursive tables
+
+unwrapped_selects : (es : List Expression) (xs : List Record) → map (λ r. epoch_of r ∷ map (λ e. evaluated e (fields_of r)) (map unwrapped es)) xs ≡ map (λ r. epoch_of r ∷ map (λ e. evaluated (unwrapped e) (fields_of r)) es) xs
+unwrapped_selects es [] = refl
+unwrapped_selects es (x ∷ xs) = ap₂ (λ (z : Record) zs. (epoch_of x ∷ z) ∷ zs) (unwrapped_items es (fields_of x)) (unwrapped_selects es xs)
+
+module _ (holds : Contents) (n : HoldEpochs holds) where
+  abbrev here : ℤ → Contents
+  here e t = rows_at e (holds t)
+
+  -- what holds of the rows that a term makes in each epoch holds of all
+  spread_term : (m : Term) (P : Record → Type 0) (xs : List Record) → HaveEpochs xs → ((e : ℤ) → AllByRecursion P (term_rows m (here e) (rows_at e xs))) → AllByRecursion (λ (r : Record). P (fields_of r)) (term_rows_by_epoch m holds xs)
+  spread_term m P xs k h = spread (λ e r. P r) (term_rows_by_epoch m holds xs) (λ e. subst (λ l. AllByRecursion P l) (sym (term_apart e m holds n xs k)) (h e))
+
+  term_plain : (m : Term) (xs : List Record) → HaveEpochs xs → ((e : ℤ) → TermHasNoError m (here e) (rows_at e xs)) → term_rows_by_epoch (unwrapped_term m) holds xs ≡ term_rows_by_epoch m holds xs
+  term_plain Term.latest xs k h = refl
+  term_plain (Term.select es m) xs k h =
+      let ys = term_rows_by_epoch (unwrapped_term m) holds xs in
+      unwrapped_selects es ys
+      ∙ selects es ys (spread_term (unwrapped_term m) (λ r. AllByRecursion (λ (x : Expression). HasNoError (unwrapped x) r) es) xs k (λ e. (h e).1))
+      ∙ ap (map (λ r. epoch_of r ∷ map (λ x. evaluated x (fields_of r)) es)) (term_plain m xs k (λ e. (h e).0))
+  term_plain (Term.select_where m c) xs k h =
+      filters c (term_rows_by_epoch (unwrapped_term m) holds xs) (spread_term (unwrapped_term m) (λ r. SearchHasNoError (unwrapped_search c) r) xs k (λ e. (h e).1))
+      ∙ ap (filter (λ r. is_true c (fields_of r))) (term_plain m xs k (λ e. (h e).0))
+  term_plain (Term.join_left m t ps) xs k h = ap (λ ys. joined_by_epoch ps ys (holds t)) (term_plain m xs k h)
+  term_plain (Term.join_right t m ps) xs k h = ap (joined_by_epoch ps (holds t)) (term_plain m xs k h)
+
+  recursion_plain : (turns : ℕ) (t : Table) (m : Term) → ((e : ℤ) → QueryHasNoError (Query.recursive turns t m) (here e)) → found_by (term_rows_by_epoch (unwrapped_term m) holds) turns (holds t) ≡ found_by (term_rows_by_epoch m holds) turns (holds t)
+  recursion_plain turns t m h =
+      let w = unwrapped_term m in
+      let g = term_rows_by_epoch w holds in
+      turns_same g (term_rows_by_epoch m holds) (holds t) turns (λ k l. term_plain m (found_by g k (holds t)).latest (found_have g (term_have w holds n) k (holds t) (n t)).latest
+      (λ e. subst (λ xs. TermHasNoError m (here e) xs) (sym (found_apart e g (term_rows w (here e)) (term_have w holds n) (term_apart e w holds n) k (holds t) (n t)).latest) (h e k l)))
+
 rows_same : (q : Query) (holds : Contents) → HoldEpochs holds → ((e : ℤ) → QueryHasNoError q (λ t. rows_at e (holds t))) → plain_rows_by_epoch q holds ≡ rows_by_epoch q holds
 unfolding rows_by_epoch
 rows_same (Query.select es t) holds n h = selects es (holds t) (spread (λ e r. AllByRecursion (λ (x : Expression). HasNoError (unwrapped x) r) es) (holds t) h)
@@ -75,6 +110,7 @@ rows_same (Query.select_distinct t) holds n h = refl
 rows_same (Query.union_all t u) holds n h = refl
 rows_same (Query.except t u) holds n h = refl
 rows_same (Query.intersect t u) holds n h = refl
+rows_same (Query.recursive k t m) holds n h = ap (λ (s : Found). s.all) (recursion_plain holds n k t m h)
 
 module _ (tables : List (List Record)) (n : AllByRecursion HaveEpochs tables) where
   contents_plain : (qs : List Query) → NoEpochHasError qs tables → plain_contents_by_epoch qs tables ≡ contents_by_epoch qs tables

@@ -1,13 +1,15 @@
 -- The result of a relation's tables holds what the relation means.
-use Rattle.std.proofs.Common.{◌≡◌, ℕ, zero, suc, ◌≤◌, ◌<◌, nat_eq, Bool, true, false, cond, List, ◌∷◌, ◌++◌, map, filter, length, refl, ap, ap₂, ◌∙◌, arith, ne_eqb}
+use Rattle.std.proofs.Common.{◌≡◌, ℕ, zero, suc, ◌≤◌, ◌<◌, nat_eq, Bool, true, false, cond, List, ◌∷◌, ◌++◌, map, filter, length, refl, sym, ap, ap₂, ◌∙◌, arith, ne_eqb}
+use Rattle.std.proofs.lemmas.Bool.{true≢false}
 use Rattle.std.proofs.lemmas.Bool.Decides.{nat_tests}
 use Rattle.semantics.specs.Multiset.{Record, each_once}
 use Rattle.semantics.specs.Meaning.{same_name, Names, bind, repeated, meaning, Found, found_first, found_next, after_turns, selected, kept, paired, grouped, only_left, in_both}
-use Rattle.semantics.specs.Query.{Name, Loop, Rel}
-use Rattle.sql_meaning.specs.Script.{Table, Query, Written}
-use Rattle.sql_meaning.specs.ScriptMeaning.{Contents, rows_of, with_table, contents, is_true, evaluated}
-use Rattle.sql_meaning.specs.Translation.{Tables, stands, then_query, Finding, finding_first, finding_next, written_loop, written, HaveWords, expression, search, aggregate_of}
+use Rattle.semantics.specs.Query.{Name, Pair, Loop, Rel}
+use Rattle.sql_meaning.specs.Script.{Table, Term, Query, Written}
+use Rattle.sql_meaning.specs.ScriptMeaning.{Contents, term_rows, found_by, rows_of, with_table, contents, is_true, evaluated}
+use Rattle.sql_meaning.specs.Translation.{Tables, stands, then_query, Finding, finding_first, finding_next, written_loop, is_linear, is_recursion, WrittenTerm, written, written_term, HaveWords, expression, search, aggregate_of}
 use Rattle.sql_meaning.proofs.Forms.{select-selected, where-kept, join-paired, group-grouped}
+use Rattle.sql_meaning.proofs.LinearBodies.{unbound, left_linear, right_linear, of_recursion}
 use Rattle.sql_meaning.proofs.Words.{meaning_words, bound_words, turns_keep_words, found_words}
 
 -- a table stands before number n
@@ -27,7 +29,7 @@ earlier_kept n rows holds (Table.made m) h = ap (λ b. cond b rows (holds (Table
 pub self_equal : (n : ℕ) → nat_eq n n ≡ true
 self_equal n = grind (arith, nat_tests)
 
-module _ (given : List (List Record)) where
+module _ (recursive : Bool) (given : List (List Record)) where
   abbrev held : List Query → Table → List Record
   held qs t = contents qs given t
 
@@ -52,12 +54,15 @@ module _ (given : List (List Record)) where
     equal = ap (λ b. cond b (rows_of q (contents rs given)) (contents rs given (Table.made (length rs)))) (self_equal (length rs)) ∙ e;
   }
 
-  pub agree_later : (names : Names) (tables : Tables) (qs : List Query) (s : Written) (rows : List Record) → Agree names tables qs → Extends qs s rows → Agree names tables s.tables
-  agree_later names tables qs s rows a e = record {
-    known = λ y. before_later (length qs) (length s.tables) (tables y) e.longer (a.known y);
-    equal = λ y. e.kept (tables y) (a.known y) ∙ a.equal y;
+  agree_kept : (names : Names) (tables : Tables) (qs rs : List Query) → Agree names tables qs → length qs ≤ length rs → ((t : Table) → Before (length qs) t → held rs t ≡ held qs t) → Agree names tables rs
+  agree_kept names tables qs rs a l k = record {
+    known = λ y. before_later (length qs) (length rs) (tables y) l (a.known y);
+    equal = λ y. k (tables y) (a.known y) ∙ a.equal y;
     words = a.words;
   }
+
+  pub agree_later : (names : Names) (tables : Tables) (qs : List Query) (s : Written) (rows : List Record) → Agree names tables qs → Extends qs s rows → Agree names tables s.tables
+  agree_later names tables qs s rows a e = agree_kept names tables qs s.tables a e.longer e.kept
 
   pub agree_bound : (x : Name) (names : Names) (tables : Tables) (qs : List Query) (s : Written) (rows : List Record) → HaveWords rows → Agree names tables qs → Extends qs s rows → Agree (bind x rows names) (stands x s.result tables) s.tables
   agree_bound x names tables qs s rows w a e = record {
@@ -162,59 +167,168 @@ module _ (given : List (List Record)) where
   loop_extends qs turn f one_turn k a xs w e Loop.iterate n = iterated qs turn f one_turn k a xs w e n
   loop_extends qs turn f one_turn k a xs w e Loop.closure n = (closed qs turn f one_turn k a xs w e n).all
 
-  pub written_means : (r : Rel) (names : Names) (tables : Tables) (qs : List Query) → Agree names tables qs → Extends qs (written r tables qs) (meaning r names)
-  unfolding meaning written rows_of
-  written_means (Rel.named x) names tables qs a = record { longer = omega arith; kept = λ t h. refl; known = a.known x; equal = a.equal x }
-  written_means (Rel.select r ss) names tables qs a =
-      let s = written r tables qs in
-      let e = written_means r names tables qs a in
-      one qs s (meaning r names) (Query.select (map expression ss) s.result) (selected ss (meaning r names)) e
-      (ap (map (λ r. map (λ e. evaluated e r) (map expression ss))) e.equal ∙ select-selected ss (meaning r names) (meaning_words r names a.words))
-  written_means (Rel.filter r c) names tables qs a =
-      let s = written r tables qs in
-      let e = written_means r names tables qs a in
-      one qs s (meaning r names) (Query.select_where s.result (search c)) (kept c (meaning r names)) e
-      (ap (filter (is_true (search c))) e.equal ∙ where-kept c (meaning r names) (meaning_words r names a.words))
-  written_means (Rel.concat p q) names tables qs a =
-      let s = written p tables qs in
-      let t = written q tables s.tables in
-      let e = written_means p names tables qs a in
-      let f = written_means q names tables s.tables (agree_later names tables qs s (meaning p names) a e) in
-      two qs s t (meaning p names) (meaning q names) (Query.union_all s.result t.result) (meaning p names ++ meaning q names) e f
-      (ap₂ (λ xs ys. xs ++ ys) (first_kept s t qs (meaning p names) (meaning q names) e f) f.equal)
-  written_means (Rel.join p q ps) names tables qs a =
-      let s = written p tables qs in
-      let t = written q tables s.tables in
-      let e = written_means p names tables qs a in
-      let f = written_means q names tables s.tables (agree_later names tables qs s (meaning p names) a e) in
-      two qs s t (meaning p names) (meaning q names) (Query.select_join s.result t.result ps) (paired ps (meaning p names) (meaning q names)) e f
-      (join-paired ps (held t.tables s.result) (held t.tables t.result) ∙ ap₂ (paired ps) (first_kept s t qs (meaning p names) (meaning q names) e f) f.equal)
-  written_means (Rel.group r ks as') names tables qs a =
-      let s = written r tables qs in
-      let e = written_means r names tables qs a in
-      one qs s (meaning r names) (Query.select_group ks (map aggregate_of as') s.result) (grouped ks as' (meaning r names)) e
-      (group-grouped ks as' (held s.tables s.result) ∙ ap (grouped ks as') e.equal)
-  written_means (Rel.distinct r) names tables qs a =
-      let s = written r tables qs in
-      let e = written_means r names tables qs a in
-      one qs s (meaning r names) (Query.select_distinct s.result) (each_once (meaning r names)) e (ap each_once e.equal)
-  written_means (Rel.except p q) names tables qs a =
-      let s = written p tables qs in
-      let t = written q tables s.tables in
-      let e = written_means p names tables qs a in
-      let f = written_means q names tables s.tables (agree_later names tables qs s (meaning p names) a e) in
-      two qs s t (meaning p names) (meaning q names) (Query.except s.result t.result) (only_left (meaning p names) (meaning q names)) e f
-      (ap₂ only_left (first_kept s t qs (meaning p names) (meaning q names) e f) f.equal)
-  written_means (Rel.intersect p q) names tables qs a =
-      let s = written p tables qs in
-      let t = written q tables s.tables in
-      let e = written_means p names tables qs a in
-      let f = written_means q names tables s.tables (agree_later names tables qs s (meaning p names) a e) in
-      two qs s t (meaning p names) (meaning q names) (Query.intersect s.result t.result) (in_both (meaning p names) (meaning q names)) e f
-      (ap₂ in_both (first_kept s t qs (meaning p names) (meaning q names) e f) f.equal)
-  written_means (Rel.loop l n x r b) names tables qs a =
-      let start = written_means r names tables qs a in
-      let w = meaning_words r names a.words in
-      loop_extends qs (λ t made. written b (stands x t tables) made) (λ xs. meaning b (bind x xs names))
-      (λ s rows v e. written_means b (bind x rows names) (stands x s.result tables) s.tables (agree_bound x names tables qs s rows v a e))
-      (λ xs v. meaning_words b (bind x xs names) (bound_words x xs names v a.words)) (written r tables qs) (meaning r names) w start l n
+  -- ---- recursive tables
+
+  -- a term that keeps the tables that there were, and makes of rows what f makes, also once more tables are made
+  record TermGives (qs : List Query) (m : WrittenTerm) (f : List Record → List Record) : Type 0 where
+    longer : length qs ≤ length m.tables
+    kept : (t : Table) → Before (length qs) t → held m.tables t ≡ held qs t
+    equal : (holds : Contents) → ((t : Table) → Before (length m.tables) t → holds t ≡ held m.tables t) → (xs : List Record) → HaveWords xs → term_rows m.term holds xs ≡ f xs
+
+  either_gives : (qs : List Query) (b : Bool) (l r : WrittenTerm) (f : List Record → List Record) → (b ≡ true → TermGives qs l f) → (b ≡ false → TermGives qs r f) → TermGives qs (cond b l r) f
+  either_gives qs true l r f h k = h refl
+  either_gives qs false l r f h k = k refl
+
+  either_extends : (qs : List Query) (b : Bool) (s t : Written) (rows : List Record) → (b ≡ true → Extends qs s rows) → Extends qs t rows → Extends qs (cond b s t) rows
+  either_extends qs true s t rows h k = h refl
+  either_extends qs false s t rows h k = k
+
+  join_left_gives : (qs : List Query) (m : WrittenTerm) (s : Written) (f : List Record → List Record) (ys : List Record) (zs : List Record → List Record) (ps : List Pair) →
+      TermGives qs m f → Extends m.tables s ys → ((xs : List Record) → ys ≡ zs xs) → TermGives qs (record { tables = s.tables; term = Term.join_left m.term s.result ps }) (λ xs. paired ps (f xs) (zs xs))
+  join_left_gives qs m s f ys zs ps g e u = record {
+    longer = omega (arith, g.longer, e.longer);
+    kept = λ t h. e.kept t (before_later (length qs) (length m.tables) t g.longer h) ∙ g.kept t h;
+    equal = λ holds k xs w.
+        join-paired ps (term_rows m.term holds xs) (holds s.result)
+        ∙ ap₂ (paired ps) (g.equal holds (λ t h. k t (before_later (length m.tables) (length s.tables) t e.longer h) ∙ e.kept t h) xs w) (k s.result e.known ∙ e.equal ∙ u xs);
+  }
+
+  join_right_gives : (qs : List Query) (s : Written) (m : WrittenTerm) (ys : List Record) (zs f : List Record → List Record) (ps : List Pair) →
+      Extends qs s ys → TermGives s.tables m f → ((xs : List Record) → ys ≡ zs xs) → TermGives qs (record { tables = m.tables; term = Term.join_right s.result m.term ps }) (λ xs. paired ps (zs xs) (f xs))
+  join_right_gives qs s m ys zs f ps e g u = record {
+    longer = omega (arith, e.longer, g.longer);
+    kept = λ t h. g.kept t (before_later (length qs) (length s.tables) t e.longer h) ∙ e.kept t h;
+    equal = λ holds k xs w.
+        join-paired ps (holds s.result) (term_rows m.term holds xs)
+        ∙ ap₂ (paired ps) (k s.result (before_later (length s.tables) (length m.tables) s.result g.longer e.known) ∙ g.kept s.result e.known ∙ e.equal ∙ u xs) (g.equal holds k xs w);
+  }
+
+  -- turns that make the same of words find the same
+  found_same : (g f : List Record → List Record) → ((xs : List Record) → HaveWords xs → g xs ≡ f xs) → ((xs : List Record) → HaveWords xs → HaveWords (f xs)) → (xs : List Record) → HaveWords xs → (n : ℕ) → found_by g n xs ≡ found_by f n xs
+  found_same g f e k xs w zero = refl
+  found_same g f e k xs w (suc n) =
+      let s = found_by f n xs in
+      ap (found_next g) (found_same g f e k xs w n)
+      ∙ ap (λ (ys : List Record). next s ys) (e s.latest (found_words f k n xs w).1)
+    where
+      next : Found → List Record → Found
+      next s ys = record { all = s.all ++ only_left ys s.all; latest = only_left ys s.all }
+
+  recursion_extends : (x : Name) (b : Rel) (f : List Record → List Record) → ((xs : List Record) → HaveWords xs → HaveWords (f xs)) → (qs : List Query) (a : Written) (xs : List Record) → HaveWords xs → Extends qs a xs →
+      (m : WrittenTerm) → (is_linear x b ≡ true → TermGives a.tables m f) → (l : Loop) (n : ℕ) → is_recursion recursive l n x b ≡ true → Extends qs (then_query m.tables (Query.recursive n a.result m.term)) (after_turns l f n xs)
+  recursion_extends x b f keeps qs a xs w start m gives Loop.iterate n e = absurd (true≢false (sym e))
+  recursion_extends x b f keeps qs a xs w start m gives Loop.closure n e =
+      let g = gives (of_recursion recursive n x b e) in
+      one_more qs m.tables (Query.recursive n a.result m.term) (found_by f n xs).all (omega (arith, start.longer, g.longer))
+      (λ t h. g.kept t (before_later (length qs) (length a.tables) t start.longer h) ∙ start.kept t h)
+      (unfold rows_of in
+      ap (λ ys. (found_by (term_rows m.term (contents m.tables given)) n ys).all) (g.kept a.result start.known ∙ start.equal)
+      ∙ ap (λ (s : Found). s.all) (found_same (term_rows m.term (contents m.tables given)) f (λ ys v. g.equal (contents m.tables given) (λ t h. refl) ys v) keeps xs w n))
+
+  mutual
+    unfolding meaning written rows_of
+
+    pub written_means : (r : Rel) (names : Names) (tables : Tables) (qs : List Query) → Agree names tables qs → Extends qs (written recursive r tables qs) (meaning r names)
+    written_means (Rel.named x) names tables qs a = record { longer = omega arith; kept = λ t h. refl; known = a.known x; equal = a.equal x }
+    written_means (Rel.select r ss) names tables qs a =
+        let s = written recursive r tables qs in
+        let e = written_means r names tables qs a in
+        one qs s (meaning r names) (Query.select (map expression ss) s.result) (selected ss (meaning r names)) e
+        (ap (map (λ r. map (λ e. evaluated e r) (map expression ss))) e.equal ∙ select-selected ss (meaning r names) (meaning_words r names a.words))
+    written_means (Rel.filter r c) names tables qs a =
+        let s = written recursive r tables qs in
+        let e = written_means r names tables qs a in
+        one qs s (meaning r names) (Query.select_where s.result (search c)) (kept c (meaning r names)) e
+        (ap (filter (is_true (search c))) e.equal ∙ where-kept c (meaning r names) (meaning_words r names a.words))
+    written_means (Rel.concat p q) names tables qs a =
+        let s = written recursive p tables qs in
+        let t = written recursive q tables s.tables in
+        let e = written_means p names tables qs a in
+        let f = written_means q names tables s.tables (agree_later names tables qs s (meaning p names) a e) in
+        two qs s t (meaning p names) (meaning q names) (Query.union_all s.result t.result) (meaning p names ++ meaning q names) e f
+        (ap₂ (λ xs ys. xs ++ ys) (first_kept s t qs (meaning p names) (meaning q names) e f) f.equal)
+    written_means (Rel.join p q ps) names tables qs a =
+        let s = written recursive p tables qs in
+        let t = written recursive q tables s.tables in
+        let e = written_means p names tables qs a in
+        let f = written_means q names tables s.tables (agree_later names tables qs s (meaning p names) a e) in
+        two qs s t (meaning p names) (meaning q names) (Query.select_join s.result t.result ps) (paired ps (meaning p names) (meaning q names)) e f
+        (join-paired ps (held t.tables s.result) (held t.tables t.result) ∙ ap₂ (paired ps) (first_kept s t qs (meaning p names) (meaning q names) e f) f.equal)
+    written_means (Rel.group r ks as') names tables qs a =
+        let s = written recursive r tables qs in
+        let e = written_means r names tables qs a in
+        one qs s (meaning r names) (Query.select_group ks (map aggregate_of as') s.result) (grouped ks as' (meaning r names)) e
+        (group-grouped ks as' (held s.tables s.result) ∙ ap (grouped ks as') e.equal)
+    written_means (Rel.distinct r) names tables qs a =
+        let s = written recursive r tables qs in
+        let e = written_means r names tables qs a in
+        one qs s (meaning r names) (Query.select_distinct s.result) (each_once (meaning r names)) e (ap each_once e.equal)
+    written_means (Rel.except p q) names tables qs a =
+        let s = written recursive p tables qs in
+        let t = written recursive q tables s.tables in
+        let e = written_means p names tables qs a in
+        let f = written_means q names tables s.tables (agree_later names tables qs s (meaning p names) a e) in
+        two qs s t (meaning p names) (meaning q names) (Query.except s.result t.result) (only_left (meaning p names) (meaning q names)) e f
+        (ap₂ only_left (first_kept s t qs (meaning p names) (meaning q names) e f) f.equal)
+    written_means (Rel.intersect p q) names tables qs a =
+        let s = written recursive p tables qs in
+        let t = written recursive q tables s.tables in
+        let e = written_means p names tables qs a in
+        let f = written_means q names tables s.tables (agree_later names tables qs s (meaning p names) a e) in
+        two qs s t (meaning p names) (meaning q names) (Query.intersect s.result t.result) (in_both (meaning p names) (meaning q names)) e f
+        (ap₂ in_both (first_kept s t qs (meaning p names) (meaning q names) e f) f.equal)
+    written_means (Rel.loop l n x r b) names tables qs a =
+        let s = written recursive r tables qs in
+        let start = written_means r names tables qs a in
+        let w = meaning_words r names a.words in
+        let f : List Record → List Record = λ xs. meaning b (bind x xs names) in
+        let keeps : (xs : List Record) → HaveWords xs → HaveWords (f xs) = λ xs v. meaning_words b (bind x xs names) (bound_words x xs names v a.words) in
+        either_extends qs (is_recursion recursive l n x b) _ _ (after_turns l f n (meaning r names))
+        (λ e. recursion_extends x b f keeps qs s (meaning r names) w start (written_term recursive x b tables s.tables) (λ k. term_means x b names tables s.tables k (agree_later names tables qs s (meaning r names) a start)) l n e)
+        (loop_extends qs (λ t made. written recursive b (stands x t tables) made) f
+        (λ s rows v e. written_means b (bind x rows names) (stands x s.result tables) s.tables (agree_bound x names tables qs s rows v a e))
+        keeps s (meaning r names) w start l n)
+
+    term_means : (x : Name) (r : Rel) (names : Names) (tables : Tables) (qs : List Query) → is_linear x r ≡ true → Agree names tables qs → TermGives qs (written_term recursive x r tables qs) (λ xs. meaning r (bind x xs names))
+    term_means x (Rel.named y) names tables qs e a = record {
+      longer = omega arith;
+      kept = λ t h. refl;
+      equal = λ holds k xs w. sym (ap (λ b. cond b xs (names y)) e);
+    }
+    term_means x (Rel.select r ss) names tables qs e a =
+        let g = term_means x r names tables qs e a in
+        record {
+          longer = g.longer;
+          kept = g.kept;
+          equal = λ holds k xs w.
+              ap (map (λ r. map (λ e. evaluated e r) (map expression ss))) (g.equal holds k xs w)
+              ∙ select-selected ss (meaning r (bind x xs names)) (meaning_words r (bind x xs names) (bound_words x xs names w a.words));
+        }
+    term_means x (Rel.filter r c) names tables qs e a =
+        let g = term_means x r names tables qs e a in
+        record {
+          longer = g.longer;
+          kept = g.kept;
+          equal = λ holds k xs w.
+              ap (filter (is_true (search c))) (g.equal holds k xs w)
+              ∙ where-kept c (meaning r (bind x xs names)) (meaning_words r (bind x xs names) (bound_words x xs names w a.words));
+        }
+    term_means x (Rel.concat p q) names tables qs e a = absurd (true≢false (sym e))
+    term_means x (Rel.join p q ps) names tables qs e a =
+        either_gives qs (is_linear x p) _ _ (λ xs. paired ps (meaning p (bind x xs names)) (meaning q (bind x xs names)))
+        (λ h.
+        let s = written_term recursive x p tables qs in
+        let g = term_means x p names tables qs h a in
+        join_left_gives qs s (written recursive q tables s.tables) (λ xs. meaning p (bind x xs names)) (meaning q names) (λ xs. meaning q (bind x xs names)) ps g
+        (written_means q names tables s.tables (agree_kept names tables qs s.tables a g.longer g.kept)) (λ xs. unbound x q (left_linear x p q e h) xs names))
+        (λ h.
+        let s = written recursive p tables qs in
+        let k = right_linear x p q e h in
+        let g = written_means p names tables qs a in
+        join_right_gives qs s (written_term recursive x q tables s.tables) (meaning p names) (λ xs. meaning p (bind x xs names)) (λ xs. meaning q (bind x xs names)) ps g
+        (term_means x q names tables s.tables k.1 (agree_later names tables qs s (meaning p names) a g)) (λ xs. unbound x p k.0 xs names))
+    term_means x (Rel.group r ks as') names tables qs e a = absurd (true≢false (sym e))
+    term_means x (Rel.distinct r) names tables qs e a = absurd (true≢false (sym e))
+    term_means x (Rel.except p q) names tables qs e a = absurd (true≢false (sym e))
+    term_means x (Rel.intersect p q) names tables qs e a = absurd (true≢false (sym e))
+    term_means x (Rel.loop l n y r b) names tables qs e a = absurd (true≢false (sym e))

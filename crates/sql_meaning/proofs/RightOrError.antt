@@ -1,14 +1,14 @@
 -- A script without wrapping answers as the script with it, where nothing is an error.
-use Rattle.std.proofs.Common.{◌≡◌, Bool, cond, ◌&&◌, ◌||◌, not, List, [], ◌∷◌, ◌++◌, map, filter, length, refl, sym, ap, ap₂, ◌∙◌, ℕ, ◌+ℤ◌, ◌-ℤ◌, ◌*ℤ◌, neg_ℤ}
+use Rattle.std.proofs.Common.{◌≡◌, ◌<◌, Bool, cond, ◌&&◌, ◌||◌, not, List, [], ◌∷◌, ◌++◌, map, filter, length, refl, sym, ap, ap₂, ◌∙◌, arith, ℕ, zero, suc, ◌+ℤ◌, ◌-ℤ◌, ◌*ℤ◌, neg_ℤ}
 use Rattle.std.specs.List.{AllByRecursion}
 use Rattle.std.specs.Int.{int_wrap}
 use mir.Syntax.{w64}
 use Rattle.semantics.specs.Multiset.{Record, same, each_once}
-use Rattle.semantics.specs.Meaning.{compares, project}
-use Rattle.sql_meaning.specs.Script.{Expression, Search, Aggregate, Query, Script}
-use Rattle.sql_meaning.specs.ScriptMeaning.{evaluated, is_true, aggregated, group_row, Contents, rows_of, with_table, contents, answers}
+use Rattle.semantics.specs.Meaning.{compares, project, Found, found_next, only_left}
+use Rattle.sql_meaning.specs.Script.{Expression, Search, Aggregate, Term, Query, Script}
+use Rattle.sql_meaning.specs.ScriptMeaning.{evaluated, is_true, aggregated, group_row, joined_rows, Contents, term_rows, found_by, rows_of, with_table, contents, answers}
 use Rattle.sql_meaning.specs.Plain.{HasNoError, IsWordOn}
-use Rattle.sql_meaning.specs.PlainScript.{unwrapped, unwrapped_search, SearchHasNoError, exactly_aggregated, group_value, plain_rows_of, QueryHasNoError, plain_contents, ScriptHasNoError, plain_answers}
+use Rattle.sql_meaning.specs.PlainScript.{unwrapped, unwrapped_search, unwrapped_term, SearchHasNoError, TermHasNoError, exactly_aggregated, group_value, plain_rows_of, QueryHasNoError, plain_contents, ScriptHasNoError, plain_answers}
 
 word_of : (e : Expression) (r : Record) → HasNoError (unwrapped e) r → IsWordOn (unwrapped e) r
 word_of (Expression.column c) r h = h
@@ -64,6 +64,35 @@ module _ (ks : List ℕ) (xs : List Record) where
   groups as' [] h = refl
   groups as' (key ∷ keys) h = ap₂ (λ z zs. z ∷ zs) (ap (λ zs. key ++ zs) (values_same as' key h.0)) (groups as' keys h.1)
 
+-- ---- recursive tables
+
+pub unwrapped_items : (es : List Expression) (r : Record) → map (λ e. evaluated e r) (map unwrapped es) ≡ map (λ e. evaluated (unwrapped e) r) es
+unwrapped_items [] r = refl
+unwrapped_items (e ∷ es) r = ap (λ zs. evaluated (unwrapped e) r ∷ zs) (unwrapped_items es r)
+
+unwrapped_selects : (es : List Expression) (xs : List Record) → map (λ r. map (λ e. evaluated e r) (map unwrapped es)) xs ≡ map (λ r. map (λ e. evaluated (unwrapped e) r) es) xs
+unwrapped_selects es [] = refl
+unwrapped_selects es (x ∷ xs) = ap₂ (λ z zs. z ∷ zs) (unwrapped_items es x) (unwrapped_selects es xs)
+
+term_plain : (m : Term) (holds : Contents) (xs : List Record) → TermHasNoError m holds xs → term_rows (unwrapped_term m) holds xs ≡ term_rows m holds xs
+term_plain Term.latest holds xs h = refl
+term_plain (Term.select es m) holds xs h =
+    let ys = term_rows (unwrapped_term m) holds xs in
+    unwrapped_selects es ys ∙ selects es ys h.1 ∙ ap (map (λ r. map (λ e. evaluated e r) es)) (term_plain m holds xs h.0)
+term_plain (Term.select_where m c) holds xs h = filters c (term_rows (unwrapped_term m) holds xs) h.1 ∙ ap (filter (is_true c)) (term_plain m holds xs h.0)
+term_plain (Term.join_left m t ps) holds xs h = ap (λ ys. joined_rows ps ys (holds t)) (term_plain m holds xs h)
+term_plain (Term.join_right t m ps) holds xs h = ap (joined_rows ps (holds t)) (term_plain m holds xs h)
+
+-- turns that make the same of what each finds, find the same
+pub turns_same : (g f : List Record → List Record) (xs : List Record) (n : ℕ) → ((turn : ℕ) → turn < n → g (found_by g turn xs).latest ≡ f (found_by g turn xs).latest) → found_by g n xs ≡ found_by f n xs
+turns_same g f xs zero h = refl
+turns_same g f xs (suc n) h =
+    let s = found_by g n xs in
+    ap (λ (ys : List Record). next s ys) (h n (omega arith)) ∙ ap (found_next f) (turns_same g f xs n (λ turn l. h turn (omega arith)))
+  where
+    next : Found → List Record → Found
+    next s ys = record { all = s.all ++ only_left ys s.all; latest = only_left ys s.all }
+
 rows_same : (q : Query) (holds : Contents) → QueryHasNoError q holds → plain_rows_of q holds ≡ rows_of q holds
 unfolding rows_of
 rows_same (Query.select es t) holds h = selects es (holds t) h
@@ -74,6 +103,9 @@ rows_same (Query.select_distinct t) holds h = refl
 rows_same (Query.union_all t u) holds h = refl
 rows_same (Query.except t u) holds h = refl
 rows_same (Query.intersect t u) holds h = refl
+rows_same (Query.recursive n t m) holds h =
+    let g = term_rows (unwrapped_term m) holds in
+    ap (λ (s : Found). s.all) (turns_same g (term_rows m holds) (holds t) n (λ turn l. term_plain m holds (found_by g turn (holds t)).latest (h turn l)))
 
 pub contents_same : (qs : List Query) (tables : List (List Record)) → ScriptHasNoError qs tables → plain_contents qs tables ≡ contents qs tables
 contents_same [] tables h = refl

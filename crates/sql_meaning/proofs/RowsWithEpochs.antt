@@ -2,11 +2,12 @@
 use Rattle.std.proofs.Common.{ℕ, ◌≤◌, nat_eq, Bool, true, false, cond, not, ◌&&◌, List, [], ◌∷◌, ◌++◌, map, filter, length, slice_index_or, zero, suc, arith}
 use Rattle.std.specs.List.{AllByRecursion}
 use Rattle.std.specs.Ordering.{int_eq}
+use Rattle.semantics.specs.Meaning.{Found, only_left}
 use Rattle.semantics.specs.Multiset.{Record, same, is_present, each_once}
 use Rattle.semantics.specs.Query.{Pair}
-use Rattle.sql_meaning.specs.Script.{Table, Query}
-use Rattle.sql_meaning.specs.ScriptMeaning.{evaluated, is_true, row_pairs, is_joined, aggregated, Contents, rows_of}
-use Rattle.sql_meaning.specs.Epochs.{epoch_of, fields_of, HaveEpochs, epoch_and, group_row_by_epoch, rows_by_epoch, contents_by_epoch}
+use Rattle.sql_meaning.specs.Script.{Table, Term, Query}
+use Rattle.sql_meaning.specs.ScriptMeaning.{evaluated, is_true, row_pairs, is_joined, aggregated, Contents, found_by, rows_of}
+use Rattle.sql_meaning.specs.Epochs.{epoch_of, fields_of, HaveEpochs, epoch_and, group_row_by_epoch, term_rows_by_epoch, rows_by_epoch, contents_by_epoch}
 use Rattle.sql_meaning.proofs.Forms.{filter-append, map-append}
 
 abbrev pub HasEpoch : Record → Type 0
@@ -73,6 +74,31 @@ joined_have ps (x ∷ xs) h ys =
         by true i = (appended_has x (fields_of u) h.0, i)
         by false i = i
 
+-- ---- recursive tables
+
+pub term_have : (m : Term) (holds : Contents) → HoldEpochs holds → (xs : List Record) → HaveEpochs xs → HaveEpochs (term_rows_by_epoch m holds xs)
+term_have Term.latest holds h xs k = k
+term_have (Term.select es m) holds h xs k =
+    have_map (λ r. epoch_of r ∷ map (λ x. evaluated x (fields_of r)) es) (λ r l. omega arith) (term_rows_by_epoch m holds xs) (term_have m holds h xs k)
+term_have (Term.select_where m c) holds h xs k = have_filter (λ r. is_true c (fields_of r)) (term_rows_by_epoch m holds xs) (term_have m holds h xs k)
+term_have (Term.join_left m t ps) holds h xs k = joined_have ps (term_rows_by_epoch m holds xs) (term_have m holds h xs k) (holds t)
+term_have (Term.join_right t m ps) holds h xs k = joined_have ps (holds t) (h t) (term_rows_by_epoch m holds xs)
+
+pub left_have : (xs ys : List Record) → HaveEpochs xs → HaveEpochs (only_left xs ys)
+left_have xs ys h = have_once (filter (λ r. not (is_present r ys)) xs) (have_filter (λ r. not (is_present r ys)) xs h)
+
+pub record FoundHave (s : Found) : Type 0 where
+  pub all : HaveEpochs s.all
+  pub latest : HaveEpochs s.latest
+
+pub found_have : (f : List Record → List Record) → ((xs : List Record) → HaveEpochs xs → HaveEpochs (f xs)) → (n : ℕ) (xs : List Record) → HaveEpochs xs → FoundHave (found_by f n xs)
+found_have f k zero xs h = record { all = have_once xs h; latest = have_once xs h }
+found_have f k (suc n) xs h =
+    let s = found_by f n xs in
+    let before = found_have f k n xs h in
+    let new = left_have (f s.latest) s.all (k s.latest before.latest) in
+    record { all = have_append s.all (only_left (f s.latest) s.all) before.all new; latest = new }
+
 pub rows_have : (q : Query) (holds : Contents) → HoldEpochs holds → HaveEpochs (rows_by_epoch q holds)
 unfolding rows_by_epoch rows_of
 rows_have (Query.select es t) holds h = have_map (λ r. epoch_of r ∷ map (λ x. evaluated x (fields_of r)) es) (λ r k. omega arith) (holds t) (h t)
@@ -84,6 +110,7 @@ rows_have (Query.select_distinct t) holds h = have_once (holds t) (h t)
 rows_have (Query.union_all t u) holds h = have_append (holds t) (holds u) (h t) (h u)
 rows_have (Query.except t u) holds h = have_once (filter (λ r. not (is_present r (holds u))) (holds t)) (have_filter (λ r. not (is_present r (holds u))) (holds t) (h t))
 rows_have (Query.intersect t u) holds h = have_once (filter (λ r. is_present r (holds u)) (holds t)) (have_filter (λ r. is_present r (holds u)) (holds t) (h t))
+rows_have (Query.recursive n t m) holds h = (found_have (term_rows_by_epoch m holds) (term_have m holds h) n (holds t) (h t)).all
 
 pub given_have : (tables : List (List Record)) → AllByRecursion HaveEpochs tables → (i : ℕ) → HaveEpochs (slice_index_or tables i [])
 given_have [] h i = tt

@@ -1,11 +1,12 @@
 -- Tables that nothing wanted reads can be left out.
 use Rattle.std.proofs.Common.{◌≡◌, ℕ, Bool, true, false, cond, nat_eq, ◌||◌, List, [], ◌∷◌, ◌++◌, length, refl, sym, ap, ap₂, ◌∙◌, arith}
 use Rattle.std.proofs.lemmas.Bool.Decides.{nat_tests}
+use mathlib.Core.Path.{fun_ext}
 use Rattle.semantics.specs.Multiset.{Record}
-use Rattle.sql_meaning.specs.Script.{Table, Query, Script}
-use Rattle.sql_meaning.specs.ScriptMeaning.{Contents, rows_of, with_table, only_given, contents}
-use Rattle.sql_meaning.specs.Epochs.{rows_by_epoch, contents_by_epoch}
-use Rattle.sql_meaning.specs.Wanted.{is_in, number_of, reads, contents_of_wanted, IsWanted}
+use Rattle.sql_meaning.specs.Script.{Table, Term, Query, Script}
+use Rattle.sql_meaning.specs.ScriptMeaning.{Contents, joined_rows, term_rows, found_by, rows_of, with_table, only_given, contents}
+use Rattle.sql_meaning.specs.Epochs.{joined_by_epoch, term_rows_by_epoch, rows_by_epoch, contents_by_epoch}
+use Rattle.sql_meaning.specs.Wanted.{is_in, number_of, term_reads, reads, contents_of_wanted, IsWanted}
 
 or_true : (a : Bool) → (a || true) ≡ true
 or_true true = refl
@@ -61,6 +62,30 @@ first_of_two t u ms = more t ms (number_of t ++ number_of u) (kept t (number_of 
 second_of_two : (t u : Table) (ms : List ℕ) → IsWanted (ms ++ (number_of t ++ number_of u)) u
 second_of_two t u ms = more u ms (number_of t ++ number_of u) (more u (number_of t) (number_of u) (own u))
 
+-- the rows of a recursive term depend only on the tables that it reads
+left_agree : (ms : List ℕ) (t : Table) (a b : Contents) → Agree (ms ++ number_of t) a b → Agree ms a b × (a t ≡ b t)
+left_agree ms t a b h = ((λ u w. h u (kept u ms (number_of t) w)), h t (more t ms (number_of t) (own t)))
+
+right_agree : (t : Table) (ms : List ℕ) (a b : Contents) → Agree (number_of t ++ ms) a b → (a t ≡ b t) × Agree ms a b
+right_agree t ms a b h = (h t (kept t (number_of t) ms (own t)), (λ u w. h u (more u (number_of t) ms w)))
+
+behind : (ms ns : List ℕ) (a b : Contents) → Agree (ms ++ ns) a b → Agree ns a b
+behind ms ns a b h = λ u w. h u (more u ms ns w)
+
+term_agree : (m : Term) (a b : Contents) → Agree (term_reads m) a b → (xs : List Record) → term_rows m a xs ≡ term_rows m b xs
+term_agree Term.latest a b h xs = refl
+term_agree (Term.select es m) a b h xs = ap (λ ys. term_rows (Term.select es Term.latest) a ys) (term_agree m a b h xs)
+term_agree (Term.select_where m c) a b h xs = ap (λ ys. term_rows (Term.select_where Term.latest c) a ys) (term_agree m a b h xs)
+term_agree (Term.join_left m t ps) a b h xs = let k = left_agree (term_reads m) t a b h in ap₂ (joined_rows ps) (term_agree m a b k.0 xs) k.1
+term_agree (Term.join_right t m ps) a b h xs = let k = right_agree t (term_reads m) a b h in ap₂ (joined_rows ps) k.0 (term_agree m a b k.1 xs)
+
+term_by_epoch_agree : (m : Term) (a b : Contents) → Agree (term_reads m) a b → (xs : List Record) → term_rows_by_epoch m a xs ≡ term_rows_by_epoch m b xs
+term_by_epoch_agree Term.latest a b h xs = refl
+term_by_epoch_agree (Term.select es m) a b h xs = ap (λ ys. term_rows_by_epoch (Term.select es Term.latest) a ys) (term_by_epoch_agree m a b h xs)
+term_by_epoch_agree (Term.select_where m c) a b h xs = ap (λ ys. term_rows_by_epoch (Term.select_where Term.latest c) a ys) (term_by_epoch_agree m a b h xs)
+term_by_epoch_agree (Term.join_left m t ps) a b h xs = let k = left_agree (term_reads m) t a b h in ap₂ (joined_by_epoch ps) (term_by_epoch_agree m a b k.0 xs) k.1
+term_by_epoch_agree (Term.join_right t m ps) a b h xs = let k = right_agree t (term_reads m) a b h in ap₂ (joined_by_epoch ps) k.0 (term_by_epoch_agree m a b k.1 xs)
+
 -- the rows of a query depend only on the tables that it reads
 rows_agree : (q : Query) (ms : List ℕ) (a b : Contents) → Agree (ms ++ reads q) a b → rows_of q a ≡ rows_of q b
 unfolding rows_of
@@ -72,6 +97,9 @@ rows_agree (Query.select_distinct t) ms a b h = ap (λ xs. rows_of (Query.select
 rows_agree (Query.union_all t u) ms a b h = rw (h t (first_of_two t u ms), h u (second_of_two t u ms)) refl
 rows_agree (Query.except t u) ms a b h = rw (h t (first_of_two t u ms), h u (second_of_two t u ms)) refl
 rows_agree (Query.intersect t u) ms a b h = rw (h t (first_of_two t u ms), h u (second_of_two t u ms)) refl
+rows_agree (Query.recursive n t m) ms a b h =
+    let k = right_agree t (term_reads m) a b (behind ms (number_of t ++ term_reads m) a b h) in
+    ap₂ (λ f xs. (found_by f n xs).all) (fun_ext (term_agree m a b k.1)) k.0
 
 with_agree : (n : ℕ) (xs ys : List Record) (wanted : List ℕ) (a b : Contents) → xs ≡ ys → Agree wanted a b → Agree wanted (with_table n xs a) (with_table n ys b)
 with_agree n xs ys wanted a b e h (Table.given i) w = h (Table.given i) tt
@@ -97,6 +125,9 @@ rows_by_epoch_agree (Query.select_distinct t) ms a b h = rows_agree (Query.selec
 rows_by_epoch_agree (Query.union_all t u) ms a b h = rows_agree (Query.union_all t u) ms a b h
 rows_by_epoch_agree (Query.except t u) ms a b h = rows_agree (Query.except t u) ms a b h
 rows_by_epoch_agree (Query.intersect t u) ms a b h = rows_agree (Query.intersect t u) ms a b h
+rows_by_epoch_agree (Query.recursive n t m) ms a b h =
+    let k = right_agree t (term_reads m) a b (behind ms (number_of t ++ term_reads m) a b h) in
+    ap₂ (λ f xs. (found_by f n xs).all) (fun_ext (term_by_epoch_agree m a b k.1)) k.0
 
 -- what each table holds if all are made, by the rows of each query, which depend only on the tables that it reads
 module _ (rows : Query → Contents → List Record) (reading : (q : Query) (ms : List ℕ) (a b : Contents) → Agree (ms ++ reads q) a b → rows q a ≡ rows q b) (tables : List (List Record)) (all : List Query → Contents) (none : all [] ≡ only_given tables)

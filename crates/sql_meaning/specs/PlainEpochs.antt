@@ -3,7 +3,7 @@ use Rattle.std.specs.Prelude.{ℕ, ℤ, List, [], ◌∷◌, ◌++◌, map, filt
 use Rattle.semantics.specs.Multiset.{Record, same, each_once}
 use Rattle.sql_meaning.specs.Script.{Aggregate, Query, Script}
 use Rattle.sql_meaning.specs.ScriptMeaning.{evaluated, is_true, Contents, with_table, only_given}
-use Rattle.sql_meaning.specs.PlainScript.{unwrapped, unwrapped_search, exactly_aggregated, ScriptHasNoError}
+use Rattle.sql_meaning.specs.PlainScript.{unwrapped, unwrapped_search, unwrapped_term, exactly_aggregated, ScriptHasNoError}
 use Rattle.sql_meaning.specs.Epochs.{epoch_of, fields_of, rows_at, epoch_and, rows_by_epoch}
 
 -- the row of a group, whose count and sum are exact
@@ -20,6 +20,7 @@ plain_rows_by_epoch (Query.select_distinct t) holds = rows_by_epoch (Query.selec
 plain_rows_by_epoch (Query.union_all t u) holds = rows_by_epoch (Query.union_all t u) holds
 plain_rows_by_epoch (Query.except t u) holds = rows_by_epoch (Query.except t u) holds
 plain_rows_by_epoch (Query.intersect t u) holds = rows_by_epoch (Query.intersect t u) holds
+plain_rows_by_epoch (Query.recursive n t m) holds = rows_by_epoch (Query.recursive n t (unwrapped_term m)) holds
 
 -- what each table holds after the tables of a script, the latest first
 abbrev pub plain_contents_by_epoch : List Query → List (List Record) → Contents

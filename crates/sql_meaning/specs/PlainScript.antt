@@ -1,12 +1,12 @@
 -- Scripts without wrapping: what they mean, and when no part of them is an error. A BIGINT whose exact value has more than 64 bits is one.
-use Rattle.std.specs.Prelude.{◌≡◌, ℕ, ℤ, pos, List, [], ◌∷◌, ◌++◌, map, filter, length}
+use Rattle.std.specs.Prelude.{◌≡◌, ◌<◌, ℕ, ℤ, pos, List, [], ◌∷◌, ◌++◌, map, filter, length}
 use Rattle.std.specs.List.{AllByRecursion}
 use Rattle.std.specs.Int.{int_wrap}
 use mir.Syntax.{w64}
 use Rattle.semantics.specs.Multiset.{Record, same, each_once}
 use Rattle.semantics.specs.Meaning.{project}
-use Rattle.sql_meaning.specs.Script.{Expression, Search, Aggregate, Query, Script}
-use Rattle.sql_meaning.specs.ScriptMeaning.{evaluated, is_true, values, added, least_of, greatest_of, Contents, rows_of, with_table, only_given}
+use Rattle.sql_meaning.specs.Script.{Expression, Search, Aggregate, Term, Query, Script}
+use Rattle.sql_meaning.specs.ScriptMeaning.{evaluated, is_true, values, added, least_of, greatest_of, Contents, term_rows, found_by, rows_of, with_table, only_given}
 use Rattle.sql_meaning.specs.Plain.{HasNoError}
 
 -- the expression, in which nothing is wrapped
@@ -33,6 +33,25 @@ SearchHasNoError (Search.both c d) r = SearchHasNoError c r × SearchHasNoError 
 SearchHasNoError (Search.either c d) r = SearchHasNoError c r × SearchHasNoError d r
 SearchHasNoError (Search.no c) r = SearchHasNoError c r
 
+-- the recursive term, in which nothing is wrapped
+abbrev pub unwrapped_term : Term → Term
+unwrapped_term Term.latest = Term.latest
+unwrapped_term (Term.select es m) = Term.select (map unwrapped es) (unwrapped_term m)
+unwrapped_term (Term.select_where m c) = Term.select_where (unwrapped_term m) (unwrapped_search c)
+unwrapped_term (Term.join_left m t ps) = Term.join_left (unwrapped_term m) t ps
+unwrapped_term (Term.join_right t m ps) = Term.join_right t (unwrapped_term m) ps
+
+-- no operator in a recursive term is an error, on the rows that the turn before found
+abbrev pub TermHasNoError : Term → Contents → List Record → Type 0
+TermHasNoError Term.latest holds xs = Unit {0}
+TermHasNoError (Term.select es m) holds xs =
+    TermHasNoError m holds xs
+    × AllByRecursion (λ (r : Record). AllByRecursion (λ (e : Expression). HasNoError (unwrapped e) r) es) (term_rows (unwrapped_term m) holds xs)
+TermHasNoError (Term.select_where m c) holds xs =
+    TermHasNoError m holds xs × AllByRecursion (λ (r : Record). SearchHasNoError (unwrapped_search c) r) (term_rows (unwrapped_term m) holds xs)
+TermHasNoError (Term.join_left m t ps) holds xs = TermHasNoError m holds xs
+TermHasNoError (Term.join_right t m ps) holds xs = TermHasNoError m holds xs
+
 -- an aggregate over the rows of a group, whose count and sum are exact
 abbrev pub exactly_aggregated : Aggregate → List Record → ℤ
 exactly_aggregated Aggregate.wrapped_count rows = pos (length rows)
@@ -55,6 +74,7 @@ plain_rows_of (Query.select_distinct t) holds = rows_of (Query.select_distinct t
 plain_rows_of (Query.union_all t u) holds = rows_of (Query.union_all t u) holds
 plain_rows_of (Query.except t u) holds = rows_of (Query.except t u) holds
 plain_rows_of (Query.intersect t u) holds = rows_of (Query.intersect t u) holds
+plain_rows_of (Query.recursive n t m) holds = rows_of (Query.recursive n t (unwrapped_term m)) holds
 
 -- no operator of a query is an error, on any row, and no count or sum
 abbrev pub QueryHasNoError : Query → Contents → Type 0
@@ -68,6 +88,8 @@ QueryHasNoError (Query.select_distinct t) holds = Unit {0}
 QueryHasNoError (Query.union_all t u) holds = Unit {0}
 QueryHasNoError (Query.except t u) holds = Unit {0}
 QueryHasNoError (Query.intersect t u) holds = Unit {0}
+QueryHasNoError (Query.recursive n t m) holds =
+    (turn : ℕ) → turn < n → TermHasNoError m holds (found_by (term_rows (unwrapped_term m) holds) turn (holds t)).latest
 
 -- what each table holds after the tables of a script, the latest first
 abbrev pub plain_contents : List Query → List (List Record) → Contents

@@ -29,7 +29,21 @@ pub data Aggregate : Type 0 where
   wrapped_sum : ℕ → Aggregate
   least greatest : ℕ → Aggregate
 
--- the tables that a query reads are named: no query is inside another
+-- What a turn of a recursive query makes of the rows that the turn before found: the recursive term of WITH RECURSIVE, whose queries stand inside one
+-- another.
+pub data Term : Type 0 where
+  -- SELECT * FROM the recursive table, which are those rows
+  latest : Term
+  -- SELECT e, .. FROM (term)
+  select : List Expression → Term → Term
+  -- SELECT * FROM (term) WHERE c
+  select_where : Term → Search → Term
+  -- SELECT * FROM (term) AS l JOIN t AS r ON l.i = r.j AND ..
+  join_left : Term → Table → List Pair → Term
+  -- SELECT * FROM t AS l JOIN (term) AS r ON l.i = r.j AND ..
+  join_right : Table → Term → List Pair → Term
+
+-- the tables that a query reads are named: no query is inside another but in a recursive term
 pub data Query : Type 0 where
   -- SELECT e, .. FROM t
   select : List Expression → Table → Query
@@ -43,6 +57,8 @@ pub data Query : Type 0 where
   select_distinct : Table → Query
   -- TABLE t UNION ALL TABLE u; TABLE t EXCEPT TABLE u; TABLE t INTERSECT TABLE u
   union_all except intersect : Table → Table → Query
+  -- WITH RECURSIVE x AS (SELECT * FROM t UNION term) SELECT * FROM x, after so many turns at most
+  recursive : (turns : ℕ) → Table → Term → Query
 
 -- tables made so far, and one that holds the rows of a relation; the latest table is first here, and its number is how many come after it in the list
 pub record Written : Type 0 where

@@ -4,9 +4,9 @@ use Rattle.std.specs.Ordering.{int_eq}
 use Rattle.std.specs.Int.{int_wrap, int_min, int_max}
 use mir.Syntax.{w64}
 use Rattle.semantics.specs.Multiset.{Record, same, is_present, each_once}
-use Rattle.semantics.specs.Meaning.{field, compares, project}
+use Rattle.semantics.specs.Meaning.{field, compares, project, repeated, Found, found_first, found_next}
 use Rattle.semantics.specs.Query.{Pair}
-use Rattle.sql_meaning.specs.Script.{Table, Expression, Search, Aggregate, Query, Script}
+use Rattle.sql_meaning.specs.Script.{Table, Expression, Search, Aggregate, Term, Query, Script}
 
 -- the value of an expression on a row
 abbrev pub evaluated : Expression → Record → ℤ
@@ -74,20 +74,38 @@ aggregated (Aggregate.greatest c) rows = greatest_of (values c rows)
 abbrev pub group_row : List ℕ → List Aggregate → List Record → Record → Record
 group_row ks as' rows key = key ++ map (λ a. aggregated a (filter (λ r. same (project ks r) key) rows)) as'
 
+-- the rows of an inner join
+abbrev pub joined_rows : List Pair → List Record → List Record → List Record
+joined_rows ps xs ys = map (λ (x : Record × Record). x.0 ++ x.1) (filter (λ (x : Record × Record). is_joined ps x.0 x.1) (row_pairs xs ys))
+
 -- what each table holds
 abbrev pub Contents : Type 0
 Contents = Table → List Record
+
+-- the rows of a recursive term, by the rows that the turn before found
+abbrev pub term_rows : Term → Contents → List Record → List Record
+term_rows Term.latest holds xs = xs
+term_rows (Term.select es m) holds xs = map (λ r. map (λ e. evaluated e r) es) (term_rows m holds xs)
+term_rows (Term.select_where m c) holds xs = filter (is_true c) (term_rows m holds xs)
+term_rows (Term.join_left m t ps) holds xs = joined_rows ps (term_rows m holds xs) (holds t)
+term_rows (Term.join_right t m ps) holds xs = joined_rows ps (holds t) (term_rows m holds xs)
+
+-- SQL's recursive UNION: first each row of the start once; at a turn, each row once of what it makes that is none of those found before. PostgreSQL
+-- calls the rows that the latest turn found its working table, and goes on until that is empty. `all` is found after so many turns.
+abbrev pub found_by : (turn : List Record → List Record) → (turns : ℕ) → (start : List Record) → Found
+found_by turn n xs = repeated (found_next turn) n (found_first xs)
 
 -- the rows of a query
 unfoldable pub rows_of : Query → Contents → List Record
 rows_of (Query.select es t) holds = map (λ r. map (λ e. evaluated e r) es) (holds t)
 rows_of (Query.select_where t c) holds = filter (is_true c) (holds t)
-rows_of (Query.select_join t u ps) holds = map (λ (x : Record × Record). x.0 ++ x.1) (filter (λ (x : Record × Record). is_joined ps x.0 x.1) (row_pairs (holds t) (holds u)))
+rows_of (Query.select_join t u ps) holds = joined_rows ps (holds t) (holds u)
 rows_of (Query.select_group ks as' t) holds = map (group_row ks as' (holds t)) (each_once (map (project ks) (holds t)))
 rows_of (Query.select_distinct t) holds = each_once (holds t)
 rows_of (Query.union_all t u) holds = holds t ++ holds u
 rows_of (Query.except t u) holds = each_once (filter (λ r. not (is_present r (holds u))) (holds t))
 rows_of (Query.intersect t u) holds = each_once (filter (λ r. is_present r (holds u)) (holds t))
+rows_of (Query.recursive n t m) holds = (found_by (term_rows m holds) n (holds t)).all
 
 -- the script's table of that number holds these rows; the other tables hold what they held
 abbrev pub with_table : ℕ → List Record → Contents → Contents

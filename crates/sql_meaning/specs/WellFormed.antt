@@ -1,13 +1,21 @@
 -- What a database asks of a script: each query reads given tables and tables before its own, each column exists, and the sides of a UNION ALL, an
--- EXCEPT and an INTERSECT have equally many columns.
+-- EXCEPT, an INTERSECT and a recursive UNION have equally many columns.
 use Rattle.std.specs.Prelude.{◌≡◌, ℕ, ◌+◌, ◌<◌, cond, nat_eq, List, [], ◌∷◌, length, slice_index_or}
 use Rattle.std.specs.List.{AllByRecursion}
 use Rattle.semantics.specs.Query.{Pair}
-use Rattle.sql_meaning.specs.Script.{Table, Expression, Search, Aggregate, Query, Script}
+use Rattle.sql_meaning.specs.Script.{Table, Expression, Search, Aggregate, Term, Query, Script}
 
 -- how many columns each table has
 abbrev pub Widths : Type 0
 Widths = Table → ℕ
+
+-- how many columns the rows of a recursive term have, by those of the recursive table
+abbrev pub term_width : Term → ℕ → Widths → ℕ
+term_width Term.latest w width = w
+term_width (Term.select es m) w width = length es
+term_width (Term.select_where m c) w width = term_width m w width
+term_width (Term.join_left m t ps) w width = term_width m w width + width t
+term_width (Term.join_right t m ps) w width = width t + term_width m w width
 
 -- how many columns the rows of a query have
 abbrev pub query_width : Query → Widths → ℕ
@@ -19,6 +27,7 @@ query_width (Query.select_distinct t) width = width t
 query_width (Query.union_all t u) width = width t
 query_width (Query.except t u) width = width t
 query_width (Query.intersect t u) width = width t
+query_width (Query.recursive n t m) width = width t
 
 -- the table of that number has k columns; the others have what they had
 abbrev pub with_width : ℕ → ℕ → Widths → Widths
@@ -66,18 +75,33 @@ AggregateFits n (Aggregate.greatest c) = c < n
 abbrev pub SameWidth : (given n : ℕ) → Widths → Table → Table → Type 0
 SameWidth given n width t u = IsReadable given n t × IsReadable given n u × (width t ≡ width u)
 
+-- each pair is of columns of two tables with so many
+abbrev pub PairsFit : ℕ → ℕ → List Pair → Type 0
+PairsFit l r ps = AllByRecursion (λ (x : Pair). (x.left < l) × (x.right < r)) ps
+
+-- the recursive term of a table of w columns may stand after n tables
+abbrev pub TermFits : (given n : ℕ) → ℕ → Widths → Term → Type 0
+TermFits given n w width Term.latest = Unit {0}
+TermFits given n w width (Term.select es m) = TermFits given n w width m × AllByRecursion (ExpressionFits (term_width m w width)) es
+TermFits given n w width (Term.select_where m c) = TermFits given n w width m × SearchFits (term_width m w width) c
+TermFits given n w width (Term.join_left m t ps) =
+    TermFits given n w width m × IsReadable given n t × PairsFit (term_width m w width) (width t) ps
+TermFits given n w width (Term.join_right t m ps) =
+    IsReadable given n t × TermFits given n w width m × PairsFit (width t) (term_width m w width) ps
+
 -- the query may stand after n tables
 abbrev pub QueryFits : (given n : ℕ) → Widths → Query → Type 0
 QueryFits given n width (Query.select es t) = IsReadable given n t × AllByRecursion (ExpressionFits (width t)) es
 QueryFits given n width (Query.select_where t c) = IsReadable given n t × SearchFits (width t) c
 QueryFits given n width (Query.select_join t u ps) =
-    IsReadable given n t × IsReadable given n u × AllByRecursion (λ (x : Pair). (x.left < width t) × (x.right < width u)) ps
+    IsReadable given n t × IsReadable given n u × PairsFit (width t) (width u) ps
 QueryFits given n width (Query.select_group ks as' t) =
     IsReadable given n t × AllByRecursion (λ k. k < width t) ks × AllByRecursion (AggregateFits (width t)) as'
 QueryFits given n width (Query.select_distinct t) = IsReadable given n t
 QueryFits given n width (Query.union_all t u) = SameWidth given n width t u
 QueryFits given n width (Query.except t u) = SameWidth given n width t u
 QueryFits given n width (Query.intersect t u) = SameWidth given n width t u
+QueryFits given n width (Query.recursive k t m) = IsReadable given n t × TermFits given n (width t) width m × (term_width m (width t) width ≡ width t)
 
 -- each table fits after those before it
 abbrev pub TablesFit : List ℕ → List Query → Type 0

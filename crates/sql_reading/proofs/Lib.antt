@@ -4,7 +4,9 @@ pub mod TreesOfExpressions
 pub mod ListsReadBack
 pub mod QueriesReadBack
 pub mod NumberedReadBack
+pub mod RecursionsReadBack
 pub mod ScriptsReadBack
+pub mod LayoutsReadBack
 pub mod TextsReadBack
 pub mod NeatScripts
 pub mod ScriptsAreReadable

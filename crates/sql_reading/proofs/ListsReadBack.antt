@@ -96,6 +96,19 @@ Space t = get_or t 0 0 ≡ 32
 abbrev pub Semicolon : Text → Type 0
 Semicolon t = get_or t 0 0 ≡ 59
 
+-- a semicolon or a bracket comes, after a query
+pub data Over (t : Text) : Type 0 where
+  semicolon : get_or t 0 0 ≡ 59 → Over t
+  close : get_or t 0 0 ≡ 41 → Over t
+
+pub over_follows : (t : Text) → Over t → Follows t
+over_follows t (Over.semicolon e) = Follows.semicolon e
+over_follows t (Over.close e) = Follows.close e
+
+over_differs : (t u : Text) → Over t → t ≡ u → nat_eq 59 (get_or u 0 0) ≡ false → nat_eq 41 (get_or u 0 0) ≡ false → ⊥
+over_differs t u (Over.semicolon f) e n m = first_differs t u 59 f e n
+over_differs t u (Over.close f) e n m = first_differs t u 41 f e m
+
 -- ---- what a SELECT lists: `blank` stands before a list's first comma where nothing does
 
 pub data Item : Type 0 where
@@ -253,26 +266,26 @@ module _ (a : Form) where
 
 -- ---- columns to group by, up to the end
 
-no_column : (x : ℕ) (r t : Text) → x < 2 ^ 64 → Semicolon r → r ≡ column_text x ++ t → ⊥
-no_column x r t f h e = first_differs r (column_text x ++ t) 59 h e refl
+no_column : (x : ℕ) (r t : Text) → x < 2 ^ 64 → Over r → r ≡ column_text x ++ t → ⊥
+no_column x r t f h e = over_differs r (column_text x ++ t) h e refl refl
 
-no_more : (r t : Text) → Semicolon r → r ≡ codes ", " ++ t → ⊥
-no_more r t h e = first_differs r (codes ", " ++ t) 59 h e refl
+no_more : (r t : Text) → Over r → r ≡ codes ", " ++ t → ⊥
+no_more r t h e = over_differs r (codes ", " ++ t) h e refl refl
 
 column_followed : (c d : ℕ) (r s : Text) → c < 2 ^ 64 → d < 2 ^ 64 → Follows r → Follows s → column_text c ++ r ≡ column_text d ++ s → (c ≡ d) × (r ≡ s)
 column_followed c d r s f g h k e = read_column c d r s f g (ends_followed r h) (ends_followed s k) e
 
-pub read_keys : (ks ls : List ℕ) (r s : Text) → AllByRecursion (λ k. k < 2 ^ 64) ks → AllByRecursion (λ k. k < 2 ^ 64) ls → Semicolon r → Semicolon s
+pub read_keys : (ks ls : List ℕ) (r s : Text) → AllByRecursion (λ k. k < 2 ^ 64) ks → AllByRecursion (λ k. k < 2 ^ 64) ls → Over r → Over s
     → joined (codes ", ") (map column_text ks) ++ r ≡ joined (codes ", ") (map column_text ls) ++ s → (ks ≡ ls) × (r ≡ s)
-read_keys = read_joined column_text (λ k. k < 2 ^ 64) (codes ", ") Follows Semicolon column_followed (λ r h. Follows.semicolon h) (λ r. Follows.comma refl) no_more no_column
+read_keys = read_joined column_text (λ k. k < 2 ^ 64) (codes ", ") Follows Over column_followed over_follows (λ r. Follows.comma refl) no_more no_column
 
 -- ---- pairs to join by, up to the end
 
-no_pair : (p : Pair) (r t : Text) → IsShortPair p → Semicolon r → r ≡ pair_text p ++ t → ⊥
-no_pair p r t f h e = first_differs r (pair_text p ++ t) 59 h e refl
+no_pair : (p : Pair) (r t : Text) → IsShortPair p → Over r → r ≡ pair_text p ++ t → ⊥
+no_pair p r t f h e = over_differs r (pair_text p ++ t) h e refl refl
 
-no_and : (r t : Text) → Semicolon r → r ≡ codes " AND " ++ t → ⊥
-no_and r t h e = first_differs r (codes " AND " ++ t) 59 h e refl
+no_and : (r t : Text) → Over r → r ≡ codes " AND " ++ t → ⊥
+no_and r t h e = over_differs r (codes " AND " ++ t) h e refl refl
 
 pair_regrouped : (k c m d r : Text) → (k ++ (c ++ (m ++ d))) ++ r ≡ k ++ (c ++ (m ++ (d ++ r)))
 pair_regrouped k c m d r = simp append_assoc
@@ -280,7 +293,7 @@ pair_regrouped k c m d r = simp append_assoc
 pair_same : (p q : Pair) → p.left ≡ q.left → p.right ≡ q.right → p ≡ q
 pair_same p q e f = ap₂ (λ (l r : ℕ). record { left = l; right = r }) e f
 
-read_pair : (p q : Pair) (r s : Text) → IsShortPair p → IsShortPair q → Follows r → Follows s → pair_text p ++ r ≡ pair_text q ++ s → (p ≡ q) × (r ≡ s)
+pub read_pair : (p q : Pair) (r s : Text) → IsShortPair p → IsShortPair q → Follows r → Follows s → pair_text p ++ r ≡ pair_text q ++ s → (p ≡ q) × (r ≡ s)
 read_pair p q r s f g h k e =
     let t : Text = codes " = r." ++ (column_text p.right ++ r) in
     let u : Text = codes " = r." ++ (column_text q.right ++ s) in
@@ -292,6 +305,6 @@ read_pair p q r s f g h k e =
     read_column p.right q.right r s f.1 g.1 (ends_followed r h) (ends_followed s k) (cancel (codes " = r.") (column_text p.right ++ r) (column_text q.right ++ s) left.1) in
     (pair_same p q left.0 right.0, right.1)
 
-pub read_pairs : (ps qs : List Pair) (r s : Text) → AllByRecursion IsShortPair ps → AllByRecursion IsShortPair qs → Semicolon r → Semicolon s
+pub read_pairs : (ps qs : List Pair) (r s : Text) → AllByRecursion IsShortPair ps → AllByRecursion IsShortPair qs → Over r → Over s
     → joined (codes " AND ") (map pair_text ps) ++ r ≡ joined (codes " AND ") (map pair_text qs) ++ s → (ps ≡ qs) × (r ≡ s)
-read_pairs = read_joined pair_text IsShortPair (codes " AND ") Follows Semicolon read_pair (λ r h. Follows.semicolon h) (λ r. Follows.space refl) no_and no_pair
+read_pairs = read_joined pair_text IsShortPair (codes " AND ") Follows Over read_pair over_follows (λ r. Follows.space refl) no_and no_pair

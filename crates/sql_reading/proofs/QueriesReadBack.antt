@@ -1,12 +1,13 @@
 -- Queries read back.
-use Rattle.std.proofs.Common.{◌≡◌, ℕ, zero, suc, ◌<◌, ◌^◌, true, false, cond, nat_eq, List, [], ◌∷◌, ◌++◌, map, length, refl, sym, ap, ap₂, ◌∙◌, get_or, append_assoc, append-nil, arith, codes, decimal}
+use Rattle.std.proofs.Common.{◌≡◌, ℕ, zero, suc, ◌<◌, ◌^◌, Bool, true, false, cond, nat_eq, List, [], ◌∷◌, ◌++◌, map, length, refl, sym, ap, ap₂, ◌∙◌, get_or, append_assoc, append-nil, arith, codes, decimal}
 use Rattle.std.specs.List.{AllByRecursion, list_all}
-use Rattle.std.proofs.lemmas.Bool.{and_parts}
+use Rattle.std.proofs.lemmas.Bool.{true≢false, and_parts}
 use Rattle.std.proofs.lemmas.Bool.Decides.{nat_tests}
 use Rattle.std.proofs.lemmas.Fmt.{decimal_injective}
 use Rattle.record_core.specs.Names.{is_digit, is_letter, is_name_byte, begins_name, IsName}
 use Rattle.semantics.specs.Query.{Pair, Input}
 use Rattle.sql_meaning.specs.Script.{Table, Expression, Aggregate, Query}
+use Rattle.sql_meaning.specs.WellFormed.{Widths}
 use Rattle.sql.specs.Dialects.{dialect_of, arithmetic_of, quote}
 use Rattle.sql.specs.Epochs.{epoch_text, join_word}
 use Rattle.sql_reading.specs.Readable.{IsShortSearch, IsShortAggregate, IsShortPair, IsThere, IsShortQuery, name_of, AreNamed}
@@ -23,7 +24,7 @@ use Rattle.sql.specs.declared.form.Form.TheVariants as form
 use Rattle.sql_reading.proofs.PrefixWords.{Text, Stops, runs, cancel, inside, decimal_digits, decimal_first}
 use Rattle.sql_reading.proofs.TreesReadBack.{Tree, tree_text, IsShort, Begins, begins, read_tree, differ}
 use Rattle.sql_reading.proofs.TreesOfExpressions.{tree, search_tree, tree_is, search_tree_is, back, back_search, back_tree, back_search_tree, short_tree, short_search_tree}
-use Rattle.sql_reading.proofs.ListsReadBack.{Item, item_text, IsFine, Follows, Semicolon, ends_followed, read_items, items_followed, read_keys, read_pairs}
+use Rattle.sql_reading.proofs.ListsReadBack.{Item, item_text, IsFine, Follows, Over, over_follows, ends_followed, read_items, items_followed, read_keys, read_pairs}
 
 -- ---- names in quotes
 
@@ -66,11 +67,11 @@ named_at (x ∷ xs) (suc i) h k = named_at xs i h.1 (omega arith)
 
 -- ---- tables
 
-abbrev word_of : List Input → Table → Text
+abbrev pub word_of : List Input → Table → Text
 word_of inputs (Table.given i) = name_of inputs i
 word_of inputs (Table.made n) = decimal n
 
-table_is : (d : Dialect) (inputs : List Input) (t : Table) → table_text d inputs t ≡ quoted d (word_of inputs t)
+pub table_is : (d : Dialect) (inputs : List Input) (t : Table) → table_text d inputs t ≡ quoted d (word_of inputs t)
 table_is d inputs (Table.given i) = refl
 table_is d inputs (Table.made n) = refl
 
@@ -109,7 +110,7 @@ head_text a o (Head.items x xs) = codes "SELECT " ++ (epoch_text o ++ ((item_tex
 head_text a o Head.star = codes "SELECT * FROM "
 head_text a o Head.distinct = codes "SELECT DISTINCT * FROM "
 
-abbrev FineHead : Head → Type 0
+abbrev pub FineHead : Head → Type 0
 FineHead (Head.items x xs) = IsFine x × AllByRecursion IsFine xs
 FineHead Head.star = Unit {0}
 FineHead Head.distinct = Unit {0}
@@ -179,7 +180,7 @@ within : (k p w v c r s : Text) → (k ++ (p ++ (w ++ c))) ++ r ≡ (k ++ (p ++ 
 within k p w v c r s e =
     cancel p (w ++ (c ++ r)) (v ++ (c ++ s)) (cancel k (p ++ (w ++ (c ++ r))) (p ++ (v ++ (c ++ s))) (sym (within_assoc k p w c r) ∙ e ∙ within_assoc k p v c s))
 
-read_head : (a : Form) (o : Epochs) (h g : Head) (r s : Text) → FineHead h → FineHead g → head_text a o h ++ r ≡ head_text a o g ++ s → (h ≡ g) × (r ≡ s)
+pub read_head : (a : Form) (o : Epochs) (h g : Head) (r s : Text) → FineHead h → FineHead g → head_text a o h ++ r ≡ head_text a o g ++ s → (h ≡ g) × (r ≡ s)
 read_head a o (Head.items x xs) (Head.items y ys) r s h k e =
     let X : Text = item_text a x ++ continued (codes ", ") (map (item_text a) xs) in
     let Y : Text = item_text a y ++ continued (codes ", ") (map (item_text a) ys) in
@@ -228,13 +229,14 @@ tail_kind (Tail.intersect u) = 6
 
 abbrev tail_by : (b c : ℕ) → ℕ
 tail_by b c =
-    cond (nat_eq b 59) 0 (cond (nat_eq c 71) 1 (cond (nat_eq c 87) 2 (cond (nat_eq c 65) 3 (cond (nat_eq c 85) 4 (cond (nat_eq c 69) 5 6)))))
+    cond (nat_eq b 32) (cond (nat_eq c 71) 1 (cond (nat_eq c 87) 2 (cond (nat_eq c 65) 3 (cond (nat_eq c 85) 4 (cond (nat_eq c 69) 5 6))))) 0
 
 abbrev tail_in : Text → ℕ
 tail_in t = tail_by (get_or t 0 0) (get_or t 1 0)
 
-tail_told : (a : Form) (o : Epochs) (inputs : List Input) (t : Tail) (r : Text) → Semicolon r → tail_in (tail_text a o inputs t ++ r) ≡ tail_kind t
-tail_told a o inputs Tail.end r h = ap (λ b. tail_by b (get_or r 1 0)) h
+tail_told : (a : Form) (o : Epochs) (inputs : List Input) (t : Tail) (r : Text) → Over r → tail_in (tail_text a o inputs t ++ r) ≡ tail_kind t
+tail_told a o inputs Tail.end r (Over.semicolon h) = ap (λ b. tail_by b (get_or r 1 0)) h
+tail_told a o inputs Tail.end r (Over.close h) = ap (λ b. tail_by b (get_or r 1 0)) h
 tail_told a o inputs (Tail.grouped ks) r h = refl
 tail_told a o inputs (Tail.filtered t) r h = refl
 tail_told a o inputs (Tail.join u ps) r h = refl
@@ -252,7 +254,7 @@ module _ (a : Form) (o : Epochs) (inputs : List Input) (named : AreNamed inputs)
   abbrev word : Table → Text
   word t = table_text (dialect_of a) inputs t
 
-  tail_clash : (t u : Tail) (r s : Text) → Semicolon r → Semicolon s → tail_text a o inputs t ++ r ≡ tail_text a o inputs u ++ s → nat_eq (tail_kind t) (tail_kind u) ≡ false → ⊥
+  tail_clash : (t u : Tail) (r s : Text) → Over r → Over s → tail_text a o inputs t ++ r ≡ tail_text a o inputs u ++ s → nat_eq (tail_kind t) (tail_kind u) ≡ false → ⊥
   tail_clash t u r s h k e n = differ (nat_eq (tail_kind t) (tail_kind u)) (same_kinds (tail_kind t) (tail_kind u) (sym (tail_told a o inputs t r h) ∙ ap tail_in e ∙ tail_told a o inputs u s k)) n
 
   second_assoc : (k f w r : Text) → (k ++ (f ++ w)) ++ r ≡ k ++ (f ++ (w ++ r))
@@ -265,7 +267,7 @@ module _ (a : Form) (o : Epochs) (inputs : List Input) (named : AreNamed inputs)
       let whole : operator ++ (f ++ (word t ++ r)) ≡ operator ++ (f ++ (word u ++ s)) = sym (second_assoc operator f (word t) r) ∙ e ∙ second_assoc operator f (word u) s in
       read_table a inputs named t u r s h k (cancel f (word t ++ r) (word u ++ s) (cancel operator (f ++ (word t ++ r)) (f ++ (word u ++ s)) whole))
 
-  read_join : (t u : Table) (ps qs : List Pair) (r s : Text) → fine (Tail.join t ps) → fine (Tail.join u qs) → Semicolon r → Semicolon s
+  read_join : (t u : Table) (ps qs : List Pair) (r s : Text) → fine (Tail.join t ps) → fine (Tail.join u qs) → Over r → Over s
       → tail_text a o inputs (Tail.join t ps) ++ r ≡ tail_text a o inputs (Tail.join u qs) ++ s → (Tail.join t ps ≡ Tail.join u qs) × (r ≡ s)
   read_join t u ps qs r s h k f g e =
       let j : Text = codes " AS l INNER JOIN " in
@@ -281,14 +283,14 @@ module _ (a : Form) (o : Epochs) (inputs : List Input) (named : AreNamed inputs)
   after_both : (k p x y r s : Text) → (k ++ (p ++ x)) ++ r ≡ (k ++ (p ++ y)) ++ s → x ++ r ≡ y ++ s
   after_both k p x y r s e = cancel p (x ++ r) (y ++ s) (cancel k (p ++ (x ++ r)) (p ++ (y ++ s)) (sym (second_assoc k p x r) ∙ e ∙ second_assoc k p y s))
 
-  pub read_tail : (t u : Tail) (r s : Text) → fine t → fine u → Semicolon r → Semicolon s → tail_text a o inputs t ++ r ≡ tail_text a o inputs u ++ s → (t ≡ u) × (r ≡ s)
+  pub read_tail : (t u : Tail) (r s : Text) → fine t → fine u → Over r → Over s → tail_text a o inputs t ++ r ≡ tail_text a o inputs u ++ s → (t ≡ u) × (r ≡ s)
   read_tail Tail.end Tail.end r s h k f g e = (refl, e)
   read_tail (Tail.grouped ks) (Tail.grouped ls) r s h k f g e =
       let both : (ks ≡ ls) × (r ≡ s) =
       read_keys ks ls r s h k f g (after_both (codes " GROUP BY ") (epoch_text o) (joined (codes ", ") (map column_text ks)) (joined (codes ", ") (map column_text ls)) r s e) in
       (ap Tail.grouped both.0, both.1)
   read_tail (Tail.filtered t) (Tail.filtered u) r s h k f g e =
-      let both : (t ≡ u) × (r ≡ s) = read_tree a t u h k r s (ends_followed r (Follows.semicolon f)) (ends_followed s (Follows.semicolon g))
+      let both : (t ≡ u) × (r ≡ s) = read_tree a t u h k r s (ends_followed r (over_follows r f)) (ends_followed s (over_follows s g))
       (cancel (codes " WHERE ") (tree_text a t ++ r) (tree_text a u ++ s) e) in
       (ap Tail.filtered both.0, both.1)
   read_tail (Tail.join t ps) (Tail.join u qs) r s h k f g e = read_join t u ps qs r s h k f g e
@@ -296,6 +298,18 @@ module _ (a : Form) (o : Epochs) (inputs : List Input) (named : AreNamed inputs)
   read_tail (Tail.except t) (Tail.except u) r s h k f g e = let both : (t ≡ u) × (r ≡ s) = read_second (codes " EXCEPT") t u r s h k e in (ap Tail.except both.0, both.1)
   read_tail (Tail.intersect t) (Tail.intersect u) r s h k f g e = let both : (t ≡ u) × (r ≡ s) = read_second (codes " INTERSECT") t u r s h k e in (ap Tail.intersect both.0, both.1)
   read_tail t u r s h k f g e = absurd (tail_clash t u r s f g e refl)
+
+-- the query makes a recursive table; the others have these parts
+abbrev pub is_recursive : Query → Bool
+is_recursive (Query.select es t) = false
+is_recursive (Query.select_where t c) = false
+is_recursive (Query.select_join t u ps) = false
+is_recursive (Query.select_group ks as' t) = false
+is_recursive (Query.select_distinct t) = false
+is_recursive (Query.union_all t u) = false
+is_recursive (Query.except t u) = false
+is_recursive (Query.intersect t u) = false
+is_recursive (Query.recursive n t m) = true
 
 -- ---- the parts of a query
 
@@ -328,6 +342,7 @@ head_of a (Query.select_distinct t) = Head.distinct
 head_of a (Query.union_all t u) = Head.star
 head_of a (Query.except t u) = Head.star
 head_of a (Query.intersect t u) = Head.star
+head_of a (Query.recursive n t m) = Head.star
 
 abbrev pub table_of : Query → Table
 table_of (Query.select es t) = t
@@ -338,6 +353,7 @@ table_of (Query.select_distinct t) = t
 table_of (Query.union_all t u) = t
 table_of (Query.except t u) = t
 table_of (Query.intersect t u) = t
+table_of (Query.recursive n t m) = t
 
 abbrev pub tail_of : Form → Query → Tail
 tail_of a (Query.select es t) = Tail.end
@@ -348,6 +364,7 @@ tail_of a (Query.select_distinct t) = Tail.end
 tail_of a (Query.union_all t u) = Tail.union u
 tail_of a (Query.except t u) = Tail.except u
 tail_of a (Query.intersect t u) = Tail.intersect u
+tail_of a (Query.recursive n t m) = Tail.end
 
 abbrev parts_text : Form → Epochs → List Input → Query → Text
 parts_text a o inputs q = head_text a o (head_of a q) ++ (table_text (dialect_of a) inputs (table_of q) ++ tail_text a o inputs (tail_of a q))
@@ -384,7 +401,7 @@ select_assoc k p i f t = simp (append_assoc, append-nil)
 group_assoc : (k p i j f t : Text) → (k ++ (p ++ ((i ++ j) ++ f))) ++ t ≡ k ++ ((p ++ i) ++ (j ++ (f ++ t)))
 group_assoc k p i j f t = simp append_assoc
 
-selected_is : (a : Form) (o : Epochs) (es : List Expression) (t : Text) → head_text a o (selected a es) ++ (t ++ [])
+pub selected_is : (a : Form) (o : Epochs) (es : List Expression) (t : Text) → head_text a o (selected a es) ++ (t ++ [])
     ≡ codes "SELECT " ++ (epoch_text o ++ (joined (codes ", ") (map (expression_text a) es) ++ (codes " FROM " ++ t)))
 selected_is a o [] t = select_assoc (codes "SELECT ") (epoch_text o) [] (codes " FROM ") t
 selected_is a o (e ∷ es) t =
@@ -401,19 +418,20 @@ grouping_is a o (k ∷ ks) gs t =
     (ap (λ (u : Text). column_text k ++ u) (keys_are a ks gs) ∙ sym (append_assoc (column_text k) (continued (codes ", ") (map column_text ks)) (continued (codes ", ") (map (aggregate_text a) gs))))
     ∙ group_assoc (codes "SELECT ") (epoch_text o) (joined (codes ", ") (map column_text (k ∷ ks))) (continued (codes ", ") (map (aggregate_text a) gs)) (codes " FROM ") t
 
-pub parts_are : (a : Form) (o : Epochs) (inputs : List Input) (q : Query) → parts_text a o inputs q ≡ query_text a o inputs q
-parts_are a o inputs (Query.select es t) = selected_is a o es (table_text (dialect_of a) inputs t)
-parts_are a o inputs (Query.select_where t c) = ap (λ (u : Text). codes "SELECT * FROM " ++ (table_text (dialect_of a) inputs t ++ (codes " WHERE " ++ u))) (search_tree_is a c)
-parts_are a o inputs (Query.select_join t u ps) = refl
-parts_are a o inputs (Query.select_group ks as' t) = grouping_is a o ks as' (table_text (dialect_of a) inputs t ++ (codes " GROUP BY " ++ keys_text o ks))
-parts_are a o inputs (Query.select_distinct t) = ap (λ (u : Text). codes "SELECT DISTINCT * FROM " ++ u) (append-nil (table_text (dialect_of a) inputs t))
-parts_are a o inputs (Query.union_all t u) = refl
-parts_are a o inputs (Query.except t u) = refl
-parts_are a o inputs (Query.intersect t u) = refl
+pub parts_are : (a : Form) (o : Epochs) (inputs : List Input) (v : Widths) (n : ℕ) (q : Query) → is_recursive q ≡ false → parts_text a o inputs q ≡ query_text a o inputs v n q
+parts_are a o inputs v n (Query.select es t) e = selected_is a o es (table_text (dialect_of a) inputs t)
+parts_are a o inputs v n (Query.select_where t c) e = ap (λ (u : Text). codes "SELECT * FROM " ++ (table_text (dialect_of a) inputs t ++ (codes " WHERE " ++ u))) (search_tree_is a c)
+parts_are a o inputs v n (Query.select_join t u ps) e = refl
+parts_are a o inputs v n (Query.select_group ks as' t) e = grouping_is a o ks as' (table_text (dialect_of a) inputs t ++ (codes " GROUP BY " ++ keys_text o ks))
+parts_are a o inputs v n (Query.select_distinct t) e = ap (λ (u : Text). codes "SELECT DISTINCT * FROM " ++ u) (append-nil (table_text (dialect_of a) inputs t))
+parts_are a o inputs v n (Query.union_all t u) e = refl
+parts_are a o inputs v n (Query.except t u) e = refl
+parts_are a o inputs v n (Query.intersect t u) e = refl
+parts_are a o inputs v n (Query.recursive k t m) e = absurd (true≢false e)
 
 -- ---- and they say the query
 
-abbrev expressions_of : List Item → List Expression
+abbrev pub expressions_of : List Item → List Expression
 expressions_of [] = []
 expressions_of (Item.blank ∷ xs) = expressions_of xs
 expressions_of (Item.count ∷ xs) = expressions_of xs
@@ -437,7 +455,7 @@ listed Head.star = []
 listed Head.distinct = []
 
 -- a query without more after its first table
-abbrev ended : Head → Table → Query
+abbrev pub ended : Head → Table → Query
 ended (Head.items x xs) t = Query.select (expressions_of (x ∷ xs)) t
 ended Head.star t = Query.select_distinct t
 ended Head.distinct t = Query.select_distinct t
@@ -455,7 +473,7 @@ expressions_back : (a : Form) (es : List Expression) → expressions_of (map (ex
 expressions_back a [] = refl
 expressions_back a (e ∷ es) = ap₂ (λ (x : Expression) (xs : List Expression). x ∷ xs) (back_tree a e) (expressions_back a es)
 
-selected_back : (a : Form) (es : List Expression) (t : Table) → ended (selected a es) t ≡ Query.select (map (said_expression (arithmetic_of a)) es) t
+pub selected_back : (a : Form) (es : List Expression) (t : Table) → ended (selected a es) t ≡ Query.select (map (said_expression (arithmetic_of a)) es) t
 selected_back a [] t = refl
 selected_back a (e ∷ es) t = ap (λ (xs : List Expression). Query.select xs t) (expressions_back a (e ∷ es))
 
@@ -474,15 +492,16 @@ grouping_back : (ks : List ℕ) (gs : List Aggregate) → aggregates_of (listed 
 grouping_back [] gs = aggregates_back gs
 grouping_back (k ∷ ks) gs = keys_back ks gs
 
-query_back : (a : Form) (q : Query) → query_of (head_of a q) (table_of q) (tail_of a q) ≡ said_query (arithmetic_of a) q
-query_back a (Query.select es t) = selected_back a es t
-query_back a (Query.select_where t c) = ap (Query.select_where t) (back_search_tree a c)
-query_back a (Query.select_join t u ps) = refl
-query_back a (Query.select_group ks as' t) = ap (λ (gs : List Aggregate). Query.select_group ks gs t) (grouping_back ks as')
-query_back a (Query.select_distinct t) = refl
-query_back a (Query.union_all t u) = refl
-query_back a (Query.except t u) = refl
-query_back a (Query.intersect t u) = refl
+query_back : (a : Form) (q : Query) → is_recursive q ≡ false → query_of (head_of a q) (table_of q) (tail_of a q) ≡ said_query (arithmetic_of a) q
+query_back a (Query.select es t) e = selected_back a es t
+query_back a (Query.select_where t c) e = ap (Query.select_where t) (back_search_tree a c)
+query_back a (Query.select_join t u ps) e = refl
+query_back a (Query.select_group ks as' t) e = ap (λ (gs : List Aggregate). Query.select_group ks gs t) (grouping_back ks as')
+query_back a (Query.select_distinct t) e = refl
+query_back a (Query.union_all t u) e = refl
+query_back a (Query.except t u) e = refl
+query_back a (Query.intersect t u) e = refl
+query_back a (Query.recursive n t m) e = absurd (true≢false e)
 
 -- ---- with numbers of 64 bits
 
@@ -490,7 +509,7 @@ fine_expressions : (a : Form) (es : List Expression) → AllByRecursion readable
 fine_expressions a [] h = tt
 fine_expressions a (e ∷ es) h = (short_tree a e h.0, fine_expressions a es h.1)
 
-fine_selected : (a : Form) (es : List Expression) → AllByRecursion readable.IsShort es → FineHead (selected a es)
+pub fine_selected : (a : Form) (es : List Expression) → AllByRecursion readable.IsShort es → FineHead (selected a es)
 fine_selected a [] h = (tt, tt)
 fine_selected a (e ∷ es) h = (short_tree a e h.0, fine_expressions a es h.1)
 
@@ -518,6 +537,7 @@ fine_parts a given (Query.select_distinct t) h = (tt, h, tt)
 fine_parts a given (Query.union_all t u) h = (tt, h.0, h.1)
 fine_parts a given (Query.except t u) h = (tt, h.0, h.1)
 fine_parts a given (Query.intersect t u) h = (tt, h.0, h.1)
+fine_parts a given (Query.recursive n t m) h = (tt, h.1, tt)
 
 -- ---- reading
 
@@ -527,9 +547,9 @@ parts_assoc h t l r = simp append_assoc
 query_same : (h h' : Head) (t t' : Table) (l l' : Tail) → h ≡ h' → t ≡ t' → l ≡ l' → query_of h t l ≡ query_of h' t' l'
 query_same h h' t t' l l' e f g = ap (λ x. query_of x t l) e ∙ ap (λ x. query_of h' x l) f ∙ ap (λ x. query_of h' t' x) g
 
-pub read_query : (a : Form) (o : Epochs) (inputs : List Input) → AreNamed inputs → (q p : Query) (r s : Text) → IsShortQuery (length inputs) q → IsShortQuery (length inputs) p → Semicolon r → Semicolon s
-    → query_text a o inputs q ++ r ≡ query_text a o inputs p ++ s → (said_query (arithmetic_of a) q ≡ said_query (arithmetic_of a) p) × (r ≡ s)
-read_query a o inputs named q p r s f g h k e =
+pub read_ordinary : (a : Form) (o : Epochs) (inputs : List Input) → AreNamed inputs → (v w : Widths) (n : ℕ) (q p : Query) (r s : Text) → is_recursive q ≡ false → is_recursive p ≡ false → IsShortQuery (length inputs) q → IsShortQuery (length inputs) p → Over r → Over s
+    → query_text a o inputs v n q ++ r ≡ query_text a o inputs w n p ++ s → (said_query (arithmetic_of a) q ≡ said_query (arithmetic_of a) p) × (r ≡ s)
+read_ordinary a o inputs named v w n q p r s b c f g h k e =
     let fq = fine_parts a (length inputs) q f in
     let fp = fine_parts a (length inputs) p g in
     let T : Text = table_text (dialect_of a) inputs (table_of q) in
@@ -537,9 +557,9 @@ read_query a o inputs named q p r s f g h k e =
     let L : Text = tail_text a o inputs (tail_of a q) in
     let M : Text = tail_text a o inputs (tail_of a p) in
     let whole : head_text a o (head_of a q) ++ (T ++ (L ++ r)) ≡ head_text a o (head_of a p) ++ (U ++ (M ++ s)) =
-    sym (parts_assoc (head_text a o (head_of a q)) T L r) ∙ ap (λ (t : Text). t ++ r) (parts_are a o inputs q) ∙ e
-    ∙ ap (λ (t : Text). t ++ s) (sym (parts_are a o inputs p)) ∙ parts_assoc (head_text a o (head_of a p)) U M s in
+    sym (parts_assoc (head_text a o (head_of a q)) T L r) ∙ ap (λ (t : Text). t ++ r) (parts_are a o inputs v n q b) ∙ e
+    ∙ ap (λ (t : Text). t ++ s) (sym (parts_are a o inputs w n p c)) ∙ parts_assoc (head_text a o (head_of a p)) U M s in
     let head : (head_of a q ≡ head_of a p) × (T ++ (L ++ r) ≡ U ++ (M ++ s)) = read_head a o (head_of a q) (head_of a p) (T ++ (L ++ r)) (U ++ (M ++ s)) fq.0 fp.0 whole in
     let table : (table_of q ≡ table_of p) × (L ++ r ≡ M ++ s) = read_table a inputs named (table_of q) (table_of p) (L ++ r) (M ++ s) fq.1 fp.1 head.1 in
     let tail : (tail_of a q ≡ tail_of a p) × (r ≡ s) = read_tail a o inputs named (tail_of a q) (tail_of a p) r s fq.2 fp.2 h k table.1 in
-    (sym (query_back a q) ∙ query_same (head_of a q) (head_of a p) (table_of q) (table_of p) (tail_of a q) (tail_of a p) head.0 table.0 tail.0 ∙ query_back a p, tail.1)
+    (sym (query_back a q b) ∙ query_same (head_of a q) (head_of a p) (table_of q) (table_of p) (tail_of a q) (tail_of a p) head.0 table.0 tail.0 ∙ query_back a p c, tail.1)

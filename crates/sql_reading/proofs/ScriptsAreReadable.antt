@@ -8,23 +8,22 @@ use Rattle.semantics.specs.Meaning.{same_name}
 use Rattle.semantics.specs.Query.{Name, Pair, Input, Output, Program}
 use Rattle.semantics.specs.Typing.{lookup, entry, InputsFit, WellTyped}
 use Rattle.semantics.specs.Typing.{Scope as Arities}
-use Rattle.sql_meaning.specs.Script.{Table, Expression, Search, Aggregate, Query}
-use Rattle.sql_meaning.specs.Translation.{script_of}
+use Rattle.sql_meaning.specs.Script.{Table, Expression, Search, Aggregate, Term, Query}
 use Rattle.sql_meaning.specs.Wanted.{is_in, reads}
-use Rattle.sql_meaning.specs.WellFormed.{Widths, query_width, widths, IsReadable, ExpressionFits, SearchFits, AggregateFits, TablesFit, ResultsFit, QueryFits}
+use Rattle.sql_meaning.specs.WellFormed.{Widths, query_width, widths, IsReadable, ExpressionFits, SearchFits, AggregateFits, TermFits, TablesFit, ResultsFit, QueryFits}
 use Rattle.sql_meaning.proofs.Formed.{script_formed}
 use Rattle.sql.specs.Asked.{Asked, is_asked, asked_tables}
-use Rattle.sql.specs.Dialects.{arithmetic_of}
+use Rattle.sql.specs.Dialects.{dialect_of, arithmetic_of, has_recursion}
 use Rattle.sql.specs.Epochs.{places}
-use Rattle.sql.specs.Text.{widths_of}
+use Rattle.sql.specs.Text.{widths_of, asked_script}
 use Rattle.sql.specs.declared.form.Arithmetic.{Arithmetic}
 use Rattle.sql.specs.declared.form.Arithmetic.TheVariants.{Plain, Wrapped}
 use Rattle.sql.specs.declared.form.Epochs.{Epochs}
 use Rattle.sql.specs.declared.form.Epochs.TheVariants as epochs
-use Rattle.sql_reading.specs.Said.{said_expression, said_search, said_query, Made, Result, made_tables, asked_results, said}
-use Rattle.sql_reading.specs.Readable.{IsShort, IsShortSearch, IsShortAggregate, IsShortPair, IsThere, IsShortQuery, name_of, AreNamed, HasNames}
+use Rattle.sql_reading.specs.Said.{said_expression, said_search, said_term, said_query, Made, Result, made_tables, asked_results, said}
+use Rattle.sql_reading.specs.Readable.{IsShort, IsShortSearch, IsShortAggregate, IsShortPair, IsThere, IsShortTerm, IsShortQuery, name_of, AreNamed, HasNames}
 use Rattle.sql_reading.specs.Readable as readable
-use Rattle.sql_reading.proofs.NeatScripts.{Numbers, NumbersOfSearch, NumbersOf, Neat, arities_of, length-arities, neat_script}
+use Rattle.sql_reading.proofs.NeatScripts.{Numbers, NumbersOfSearch, ShortParts, NumbersOf, Neat, arities_of, length-arities, neat_script}
 
 -- ---- names of inputs
 
@@ -124,6 +123,13 @@ module _ (given : List ℕ) (few : (i : ℕ) → slice_index_or given i 0 ≤ ma
   placed epochs.One qs h t = below qs h t
   placed epochs.Every qs h t = omega (arith, narrow qs h t)
 
+  short_term : (qs : List Query) (j : ℕ) (m : Term) → length qs ≤ 2 ^ 64 → TermFits (length given) (length qs) j (widths qs given) m → ShortParts m → IsShortTerm (length given) m
+  short_term qs j Term.latest l f h = tt
+  short_term qs j (Term.select es m) l f h = (h.0, short_term qs j m l f.0 h.1)
+  short_term qs j (Term.select_where m c) l f h = (short_term qs j m l f.0 h.0, h.1)
+  short_term qs j (Term.join_left m t ps) l f h = (short_term qs j m l f.0 h.0, there (length given) (length qs) t l f.1, h.1)
+  short_term qs j (Term.join_right t m ps) l f h = (there (length given) (length qs) t l f.0, short_term qs j m l f.1 h.0, h.1)
+
   short_query : (qs : List Query) (q : Query) → Neat given qs → length qs ≤ 2 ^ 64 → QueryFits (length given) (length qs) (widths qs given) q → NumbersOf q → IsShortQuery (length given) q
   short_query qs (Query.select es t) h l f w = (short_expressions (widths qs given t) es (below qs h t) f.1 w, there (length given) (length qs) t l f.0)
   short_query qs (Query.select_where t c) h l f w = (there (length given) (length qs) t l f.0, short_search (widths qs given t) c (below qs h t) f.1 w)
@@ -135,6 +141,7 @@ module _ (given : List ℕ) (few : (i : ℕ) → slice_index_or given i 0 ≤ ma
   short_query qs (Query.union_all t u) h l f w = (there (length given) (length qs) t l f.0, there (length given) (length qs) u l f.1)
   short_query qs (Query.except t u) h l f w = (there (length given) (length qs) t l f.0, there (length given) (length qs) u l f.1)
   short_query qs (Query.intersect t u) h l f w = (there (length given) (length qs) t l f.0, there (length given) (length qs) u l f.1)
+  short_query qs (Query.recursive n t m) h l f w = (w.0, there (length given) (length qs) t l f.0, short_term qs (widths qs given t) m l f.1 w.1)
 
 -- ---- what is said of them
 
@@ -159,6 +166,13 @@ said_short_search Plain (Search.both c d) h = (said_short_search Plain c h.0, sa
 said_short_search Plain (Search.either c d) h = (said_short_search Plain c h.0, said_short_search Plain d h.1)
 said_short_search Plain (Search.no c) h = said_short_search Plain c h
 
+said_short_term : (m : Arithmetic) (given : ℕ) (t : Term) → IsShortTerm given t → IsShortTerm given (said_term m t)
+said_short_term m given Term.latest h = tt
+said_short_term m given (Term.select es t) h = (said_shorts m es h.0, said_short_term m given t h.1)
+said_short_term m given (Term.select_where t c) h = (said_short_term m given t h.0, said_short_search m c h.1)
+said_short_term m given (Term.join_left t u ps) h = (said_short_term m given t h.0, h.1, h.2)
+said_short_term m given (Term.join_right u t ps) h = (h.0, said_short_term m given t h.1, h.2)
+
 said_short_query : (m : Arithmetic) (given : ℕ) (q : Query) → IsShortQuery given q → IsShortQuery given (said_query m q)
 said_short_query m given (Query.select es t) h = (said_shorts m es h.0, h.1)
 said_short_query m given (Query.select_where t c) h = (h.0, said_short_search m c h.1)
@@ -168,6 +182,7 @@ said_short_query m given (Query.select_distinct t) h = h
 said_short_query m given (Query.union_all t u) h = h
 said_short_query m given (Query.except t u) h = h
 said_short_query m given (Query.intersect t u) h = h
+said_short_query m given (Query.recursive n t u) h = (h.0, h.1, said_short_term m given u h.2)
 
 abbrev Fine : ℕ → Made → Type 0
 Fine given m = (m.number < 2 ^ 64) × (m.width < 2 ^ 64) × IsShortQuery given m.query
@@ -212,19 +227,19 @@ few_fields [] scope i f = omega arith
 few_fields (a ∷ as') scope zero f = f.1.1
 few_fields (a ∷ as') scope (suc i) f = few_fields as' (entry a.name a.arity ∷ scope) i f.2
 
-pub are_readable : (a : Asked) (p : Program) (ns : List ℕ) → WellTyped p ns → HasNames p → length (script_of p).tables < 2 ^ 64 → readable.IsReadable (said a p)
+pub are_readable : (a : Asked) (p : Program) (ns : List ℕ) → WellTyped p ns → HasNames p → length (asked_script a p).tables < 2 ^ 64 → readable.IsReadable (said a p)
 are_readable a p ns t h l =
     let given = arities_of p.inputs in
-    let formed = script_formed p ns t in
-    let neat = neat_script p ns t in
+    let formed = script_formed (has_recursion (dialect_of a.form)) p ns t in
+    let neat = neat_script (has_recursion (dialect_of a.form)) p ns t in
     let few = λ (i : ℕ). few_fields p.inputs [] i t.inputs in
-    let narrow' = below given few (script_of p).tables neat in
-    let width = widths_of p.inputs (script_of p).tables in
+    let narrow' = below given few (asked_script a p).tables neat in
+    let width = widths_of p.inputs (asked_script a p).tables in
     record {
       inputs = record { names = named_inputs p.inputs [] t.inputs h.inputs; differ = λ i j. apart p.inputs [] i j t.inputs };
       made = subst (λ n. AllByRecursion (Fine n) (said a p).made) (length-arities p.inputs)
-          (all_made given few (arithmetic_of a.form) width narrow' (asked_tables a.output (script_of p).results p.outputs) (script_of p).tables formed.tables neat l);
+          (all_made given few (arithmetic_of a.form) width narrow' (asked_tables a.output (asked_script a p).results p.outputs) (asked_script a p).tables formed.tables neat l);
       results = subst (λ n. AllByRecursion (FineResult a.epochs n) (said a p).results) (length-arities p.inputs)
-          (all_results a.epochs (length given) (length (script_of p).tables) width a.output (script_of p).results p.outputs ns
-          (placed given few a.epochs (script_of p).tables neat) (omega (arith, l)) formed.results h.outputs);
+          (all_results a.epochs (length given) (length (asked_script a p).tables) width a.output (asked_script a p).results p.outputs ns
+          (placed given few a.epochs (asked_script a p).tables neat) (omega (arith, l)) formed.results h.outputs);
     }

@@ -4,7 +4,7 @@ use mir.Syntax.{w64}
 use Rattle.std.specs.List.{AllByRecursion}
 use Rattle.record_core.specs.Names.{IsName}
 use Rattle.semantics.specs.Query.{Pair, Input, Output, Program}
-use Rattle.sql_meaning.specs.Script.{Table, Expression, Search, Aggregate, Query}
+use Rattle.sql_meaning.specs.Script.{Table, Expression, Search, Aggregate, Term, Query}
 use Rattle.sql.specs.Epochs.{places}
 use Rattle.sql_reading.specs.Said.{Made, Result, Said}
 
@@ -41,6 +41,14 @@ abbrev pub IsThere : (given : ℕ) → Table → Type 0
 IsThere given (Table.given i) = i < given
 IsThere given (Table.made n) = n < 2 ^ 64
 
+-- of a recursive term, over so many given tables
+abbrev pub IsShortTerm : (given : ℕ) → Term → Type 0
+IsShortTerm given Term.latest = Unit {0}
+IsShortTerm given (Term.select es m) = AllByRecursion IsShort es × IsShortTerm given m
+IsShortTerm given (Term.select_where m c) = IsShortTerm given m × IsShortSearch c
+IsShortTerm given (Term.join_left m t ps) = IsShortTerm given m × IsThere given t × AllByRecursion IsShortPair ps
+IsShortTerm given (Term.join_right t m ps) = IsThere given t × IsShortTerm given m × AllByRecursion IsShortPair ps
+
 -- of a query, over so many given tables
 abbrev pub IsShortQuery : (given : ℕ) → Query → Type 0
 IsShortQuery given (Query.select es t) = AllByRecursion IsShort es × IsThere given t
@@ -51,6 +59,7 @@ IsShortQuery given (Query.select_distinct t) = IsThere given t
 IsShortQuery given (Query.union_all t u) = IsThere given t × IsThere given u
 IsShortQuery given (Query.except t u) = IsThere given t × IsThere given u
 IsShortQuery given (Query.intersect t u) = IsThere given t × IsThere given u
+IsShortQuery given (Query.recursive n t m) = (n < 2 ^ 64) × IsThere given t × IsShortTerm given m
 
 -- the name of the given table with that number
 abbrev pub name_of : List Input → ℕ → List ℕ

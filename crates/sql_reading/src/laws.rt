@@ -3,9 +3,8 @@
 ghost use Rattle.std.specs.Prelude.{◌≡◌, ◌^◌, ◌<◌, List, ℕ, length};
 ghost use Rattle.semantics.specs.Query.{Program};
 ghost use Rattle.semantics.specs.Typing.{WellTyped};
-ghost use Rattle.sql_meaning.specs.Translation.{script_of};
 ghost use Rattle.sql.specs.Asked.{Asked};
-ghost use Rattle.sql.specs.Text.{script_text};
+ghost use Rattle.sql.specs.Text.{asked_script, script_text};
 ghost use Rattle.sql_reading.specs.Readable.{HasNames, IsReadable};
 ghost use Rattle.sql_reading.specs.Said.{said};
 
@@ -17,5 +16,5 @@ pub fn law_reads_back()
 
 /// So it is of each well-typed program whose inputs and outputs have names, and whose script doesn't have 2^64 tables.
 pub fn law_readable()
-    ensures { (a : Asked) (p : Program) (ns : List ℕ) → WellTyped p ns → HasNames p → length (script_of p).tables < 2 ^ 64 → IsReadable (said a p) }
+    ensures { (a : Asked) (p : Program) (ns : List ℕ) → WellTyped p ns → HasNames p → length (asked_script a p).tables < 2 ^ 64 → IsReadable (said a p) }
 {}
