@@ -1,5 +1,5 @@
 -- What digits make of a number.
-use Rattle.std.proofs.Common.{◌≡◌, ◌≢◌, ◌<◌, ◌≤◌, ◌+◌, ◌-◌, ◌*◌, ◌/◌, ◌%◌, ◌^◌, ◌++◌, ◌∷◌, ◌∙◌, ℕ, zero, suc, List, [], length, get_or, drop, take, refl, sym, ap, arith, drop-cons, add-one, inl, inr, ℤ, pos, negsuc, neg_ℤ, decimal, nat_lt, true, false, Option, Some, None, IfSome, IfNone, FitsSigned, w64, subst, ◌≤ℤ◌}
+use Rattle.std.proofs.Common.{◌≡◌, ◌<◌, ◌≤◌, ◌+◌, ◌-◌, ◌*◌, ◌/◌, ◌%◌, ◌^◌, ◌++◌, ◌∷◌, ◌∙◌, ℕ, zero, suc, List, [], length, get_or, drop, take, refl, sym, ap, arith, drop-cons, add-one, inl, inr, ℤ, pos, negsuc, neg_ℤ, decimal, nat_lt, Option, Some, None, IfSome, IfNone, FitsSigned, w64, subst, ◌≤ℤ◌}
 use Rattle.std.proofs.Math.Nat.{div-div-eq-div-mul, div-eq_of_lt, div-le_self, div-one}
 use Rattle.std.proofs.lemmas.List.{drop_all, length-append, length-drop, take_all}
 use Rattle.std.proofs.Math.Seq.{take-append_seam, drop-append-add}

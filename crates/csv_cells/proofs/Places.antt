@@ -1,9 +1,9 @@
 -- A text has one place in a dictionary.
-use Rattle.std.proofs.Common.{◌≡◌, ◌<◌, ℕ, ℤ, pos, negsuc, zero, suc, List, [], ◌∷◌, ◌++◌, map, length, Some, refl, sym, ◌∙◌, ap, arith, slice_get, Bool, true, false, inl, inr, if◌then◌else◌, Result, Ok, Err, IfOk, OnOk}
+use Rattle.std.proofs.Common.{◌≡◌, ℕ, ℤ, pos, negsuc, zero, suc, List, [], ◌∷◌, ◌++◌, map, length, Some, refl, sym, ◌∙◌, ap, arith, slice_get, Bool, true, false, inl, inr, if◌then◌else◌, Result, Ok, Err, OnOk}
 use Rattle.std.proofs.lemmas.List.{map-append}
 use Rattle.std.proofs.lemmas.Option.{slice_get_within}
 use Rattle.std.specs.List.{IsDistinct, AllByRecursion}
-use Rattle.csv_cells.specs.Texts.{HasText, IsAdded, text_at}
+use Rattle.csv_cells.specs.Texts.{IsAdded, text_at}
 use Rattle.csv_cells.proofs.Rows.{get-kept, get-last, some-once}
 
 apart : {K : Type 0} (e : K → K → Bool) (v : K → List ℕ) → ((a b : K) → v a ≡ v b → e a b ≡ true) → (k : K) (ks : List K) (j : ℕ) (t : List ℕ)

@@ -1,13 +1,13 @@
 -- Fields of a list that grows.
-use Rattle.std.proofs.Common.{◌≡◌, ◌<◌, ◌+◌, ℕ, ℤ, pos, negsuc, zero, suc, List, [], ◌∷◌, ◌++◌, map, length, Option, Some, None, refl, sym, ◌∙◌, ap, arith, slice_get, get_or, Bool, true, false, inl, inr, Result, Ok, Err, IfSome, if◌then◌else◌}
+use Rattle.std.proofs.Common.{◌≡◌, ◌<◌, ◌+◌, ℕ, ℤ, pos, negsuc, zero, suc, List, [], ◌∷◌, ◌++◌, length, Option, Some, None, refl, sym, ◌∙◌, ap, subst, arith, slice_get, get_or, inl, inr, IfSome, FitsSigned, w64}
 use Rattle.std.proofs.lemmas.Bool.{cases_lt}
 use Rattle.std.proofs.lemmas.Option.{slice_get_within}
 use Rattle.std.proofs.lemmas.List.{get_or_append_left, ext_get_or}
 use Rattle.std.proofs.Math.Seq.{get_or-append_seam}
-use Rattle.std.proofs.lemmas.List.{map-append, append-nil, append_assoc}
+use Rattle.std.proofs.lemmas.List.{append-nil, append_assoc}
 use Rattle.csv.specs.Records.{field_at}
 use Rattle.csv.specs.Reading.{Reached, default_config}
-use Rattle.csv_cells.specs.Texts.{text_at, Grows, IsAdded}
+use Rattle.csv_cells.specs.Texts.{Grows, IsAdded}
 use Rattle.csv_cells.specs.Numbers.{IsDateText, date_text}
 use Rattle.csv_cells.specs.Cells.{Spells, Stands, StandsAs, StandsWith, plain}
 use Rattle.csv_cells.specs.Encoded.{SpellsAll, lines_text, line_text, numbers_text}
@@ -120,6 +120,19 @@ numbers-push columns old more zs fs z n same known new j below = elim (cases_lt 
       rw (at, read) it
 ]
 
+-- one more number of 64 bits
+pub fits-push : (zs : List ℤ) (z : ℤ) (n : ℕ) → length zs ≡ n → ((j : ℕ) → j < n → FitsSigned w64 (get_or zs j (pos 0))) → FitsSigned w64 z
+    → (j : ℕ) → j < n + 1 → FitsSigned w64 (get_or (zs ++ z ∷ []) j (pos 0))
+fits-push zs z n same old new j below = elim (cases_lt j n) [
+  | inl under ↦
+      let read : get_or (zs ++ z ∷ []) j (pos 0) ≡ get_or zs j (pos 0) = get_or_append_left zs (z ∷ []) (pos 0) j (omega (arith, same, under)) in
+      subst (λ (x : ℤ). FitsSigned w64 x) (sym read) (old j under)
+  | inr over ↦
+      let at : j ≡ length zs = omega (arith, same, below, over) in
+      let read : get_or (zs ++ z ∷ []) j (pos 0) ≡ z = ap (λ (k : ℕ). get_or (zs ++ z ∷ []) k (pos 0)) at ∙ get_or-append_seam zs z [] (pos 0) in
+      subst (λ (x : ℤ). FitsSigned w64 x) (sym read) new
+]
+
 -- what was added grows
 pub added-grows : (text : List ℕ) (old new : List (List ℕ)) → IsAdded text old new → Grows old new
 added-grows text old new (inl a) = ([], a.1 ∙ sym (append-nil old))
@@ -144,6 +157,7 @@ pub spells-kept : (columns : List Column) (old more fs : List (List ℕ)) (zs : 
 spells-kept columns old more fs zs s = record {
   counted = s.counted;
   wide = s.wide;
+  fit = s.fit;
   stands = λ j below. cell-kept (get_or columns j plain) old more (get_or zs j (pos 0)) (get_or fs j []) (s.stands j below);
 }
 

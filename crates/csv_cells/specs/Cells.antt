@@ -33,6 +33,18 @@ StandsAs column texts z cell = StandsWith column.empty column.kind texts z cell
 abbrev pub IsOnly : Column → (texts : List (List ℕ)) → (cell : List ℕ) → Option ℤ → Type 0
 IsOnly column texts cell found = (z : ℤ) → FitsSigned w64 z → StandsAs column texts z cell → found ≡ Some z
 
+-- in a column of texts the cell has a number of its own
+abbrev pub IsNumbered : Kind → (texts : List (List ℕ)) → (cell : List ℕ) → Type 0
+IsNumbered Int texts cell = ⊤
+IsNumbered (Decimal places) texts cell = ⊤
+IsNumbered Date texts cell = ⊤
+IsNumbered Time texts cell = ⊤
+IsNumbered Text texts cell = (z : ℤ) × FitsSigned w64 z × (text_at texts z ≡ Some cell)
+
+-- no number stands for the cell, and not for want of one in the dictionary
+abbrev pub IsNoCell : Column → (texts : List (List ℕ)) → (cell : List ℕ) → Type 0
+IsNoCell column texts cell = IsOnly column texts cell None × (IsNumbered column.kind texts cell ⊎ ((cell ≡ []) × (column.empty ≡ Refused)))
+
 -- what the number stands for was written, or it stands for nothing
 abbrev pub WritesKind : Kind → (texts : List (List ℕ)) → (number : ℤ) → (old new : List ℕ) → Bool → Type 0
 WritesKind kind texts z old new true = (text : List ℕ) × Stands kind texts z text × (new ≡ old ++ text)
@@ -46,15 +58,16 @@ WritesCell column texts z old new false = (cell : List ℕ) → ¬ StandsAs colu
 abbrev pub plain : Column
 plain = record { kind = Int; empty = Refused }
 
--- the numbers stand for these cells, one for each column
+-- the numbers, of 64 bits, stand for these cells, one for each column
 pub record Spells (columns : List Column) (texts : List (List ℕ)) (cells : List (List ℕ)) (numbers : List ℤ) : Type 0 where
   pub counted : length numbers ≡ length columns
   pub wide : length cells ≡ length columns
+  pub fit : (i : ℕ) → i < length columns → FitsSigned w64 (get_or numbers i (pos 0))
   pub stands : (i : ℕ) → i < length columns → StandsAs (get_or columns i plain) texts (get_or numbers i (pos 0)) (get_or cells i [])
 
 -- why a record has no numbers: for the cell in that column none stands, and for each before it one does
 abbrev pub IsRefusedRow : List Column → (texts : List (List ℕ)) → (cells : List (List ℕ)) → RowFault → Type 0
 IsRefusedRow columns texts cells Length = length cells ≢ length columns
-IsRefusedRow columns texts cells (Cell i) = (length cells ≡ length columns) × (i < length columns) × IsOnly (get_or columns i plain) texts (get_or cells i []) None
+IsRefusedRow columns texts cells (Cell i) = (length cells ≡ length columns) × (i < length columns) × IsNoCell (get_or columns i plain) texts (get_or cells i [])
     × ((j : ℕ) → j < i → (z : ℤ) × StandsAs (get_or columns j plain) texts z (get_or cells j []))
 IsRefusedRow columns texts cells NoMemory = ⊤

@@ -1,8 +1,8 @@
 //! The number of a cell, and the cell of a number.
 
-ghost use Rattle.std.specs.Prelude.{◌≡◌, true, ℤ, FitsSigned, IfOk, IfSome, OnOk, Some};
+ghost use Rattle.std.specs.Prelude.{◌≡◌, true, ℤ, FitsSigned, IfNone, IfOk, IfSome, OnOk, Some};
 ghost use Rattle.std.specs.Int.{w64};
-ghost use Rattle.csv_cells.specs.Cells.{IsOnly, Stands, WritesCell, WritesKind, StandsAs};
+ghost use Rattle.csv_cells.specs.Cells.{IsNoCell, IsNumbered, IsOnly, Stands, WritesCell, WritesKind, StandsAs};
 ghost use Rattle.csv_cells.specs.Numbers.{IsDateText, decimal_text, time_text};
 ghost use Rattle.csv_cells.specs.Texts.{Grows, texts_of};
 
@@ -79,6 +79,7 @@ fn read_kind(
 ) -> Result<Option<i64>, AllocError>
     ensures found { IfOk result (λ o. IfSome o (λ z. Stands kind (texts_of dictionary.new) z text.now)) }
     ensures only { IfOk result (λ o. (z : ℤ) → FitsSigned w64 z → Stands kind (texts_of dictionary.new) z text.now → o ≡ Some z) }
+    ensures numbered { OnOk result (IsNumbered kind (texts_of dictionary.new) text.now) }
     ensures grows { OnOk result (Grows (texts_of dictionary.old) (texts_of dictionary.new)) }
 {
     match kind {
@@ -134,6 +135,7 @@ pub fn read_cell(
 ) -> Result<Option<i64>, AllocError>
     ensures found { IfOk result (λ o. IfSome o (λ z. StandsAs column (texts_of dictionary.new) z cell.now)) }
     ensures only { IfOk result (IsOnly column (texts_of dictionary.new) cell.now) }
+    ensures none { IfOk result (λ o. IfNone o (IsNoCell column (texts_of dictionary.new) cell.now)) }
     ensures grows { OnOk result (Grows (texts_of dictionary.old) (texts_of dictionary.new)) }
 {
     match column.empty {

@@ -1,7 +1,7 @@
 //! The numbers of a record, and the cells of numbers.
 
 ghost use Rattle.csv_cells.specs.declared.row.RowFault.TheVariants as fault;
-ghost use Rattle.std.specs.Prelude.{◌≡◌, ℕ, List, IfErr, IfNone, IfOk, IfSome, OnOk, map};
+ghost use Rattle.std.specs.Prelude.{◌≡◌, ◌⊎◌, ℕ, List, IfErr, IfNone, IfOk, IfSome, OnOk, map};
 ghost use Rattle.csv.specs.Records.{fields_of};
 ghost use Rattle.csv_cells.specs.Cells.{IsRefusedRow, Spells};
 ghost use Rattle.csv_cells.specs.Texts.{Grows, texts_of};
@@ -52,6 +52,7 @@ pub fn read_row(
     ensures spelled { OnOk result (Spells columns.now (texts_of dictionary.new) (fields_of row.now) numbers.new.items) }
     ensures refused { IfErr result (λ fault. IsRefusedRow columns.now (texts_of dictionary.new) (fields_of row.now) fault) }
     ensures grows { OnOk result (Grows (texts_of dictionary.old) (texts_of dictionary.new)) }
+    ensures kept { IfErr result (λ why. (why ≡ fault.NoMemory) ⊎ Grows (texts_of dictionary.old) (texts_of dictionary.new)) }
 {
     numbers.clear();
     if row.len() != columns.len() {

@@ -1,7 +1,8 @@
 -- A text, byte by byte.
-use Rattle.std.proofs.Common.{◌≡◌, ◌<◌, ◌≤◌, ◌+◌, ◌++◌, ◌∙◌, ℕ, suc, List, [], ◌∷◌, length, get_or, take, Option, Some, None, refl, sym, ap, add-one, arith}
+use Rattle.std.proofs.Common.{◌≡◌, ◌<◌, ◌≤◌, ◌+◌, ◌++◌, ◌∙◌, ℕ, zero, suc, List, [], ◌∷◌, true, false, length, get_or, slice_get, take, Option, Some, None, refl, sym, ap, add-one, arith}
 use Rattle.std.proofs.Math.Seq.{take-suc}
-use Rattle.csv_strict.specs.Strict.{IsPlace, fault_of, run, next_state, state_at}
+use Rattle.csv_strict.specs.Strict.{IsPlace, IsRefused, IsStrict, Stops, ends_text, fault_of, run, next_state, state_at}
+use Rattle.csv_strict.specs.declared.checking.Refusal.{Refusal}
 use Rattle.csv_strict.specs.declared.state.State.{State}
 use Rattle.csv_strict.specs.declared.state.State.TheVariants.{Record, Field, Bare, Quoted, Quote, Return}
 
@@ -45,3 +46,20 @@ place-here Bare stop = refl
 place-here Quoted stop = omega arith
 place-here Quote stop = refl
 place-here Return stop = refl
+
+-- a text doesn't go on where it stops
+stopped : (o : Option State) (text : List ℕ) (stop : ℕ) (state : State) → run o (take stop text) ≡ Some state → Stops state (slice_get text stop)
+    → (last : State) → run o text ≡ Some last → ends_text last ≡ true → ⊥
+unfolding run
+stopped None text stop state before stops last all ends = let e : None ≡ Some state = sym (none-run (take stop text)) ∙ before in cc e
+stopped (Some s) [] zero state before stops last all ends = let e : state ≡ last = cc in let f : true ≡ false = sym ends ∙ ap ends_text (sym e) ∙ stops in cc f
+stopped (Some s) [] (suc stop) state before stops last all ends = let e : state ≡ last = cc in let f : true ≡ false = sym ends ∙ ap ends_text (sym e) ∙ stops in cc f
+stopped (Some s) (b ∷ text) zero state before stops last all ends =
+    let same : s ≡ state = cc in
+    let none : next_state s b ≡ None = ap (λ (t : State). next_state t b) same ∙ stops in
+    let e : None ≡ Some last = sym (none-run text) ∙ ap (λ (o : Option State). run o text) (sym none) ∙ all in
+    cc e
+stopped (Some s) (b ∷ text) (suc stop) state before stops last all ends = stopped (next_state s b) text stop state before stops last all ends
+
+pub not-strict : (text : List ℕ) (refusal : Refusal) → IsRefused text refusal → IsStrict text → ⊥
+not-strict text refusal r strict = stopped (Some Record) text r.stop r.state r.before r.stops strict.0 strict.1 strict.2

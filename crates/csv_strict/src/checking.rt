@@ -1,6 +1,6 @@
 //! The first byte of a text that the grammar doesn't allow.
 
-ghost use Rattle.std.specs.Prelude.{◌≡◌, ◌≤◌, ◌+◌, length, IfErr, OnOk};
+ghost use Rattle.std.specs.Prelude.{◌≡◌, ◌≤◌, ◌+◌, length, IfErr, List, OnOk, ℕ};
 ghost use Rattle.csv_strict.specs.Strict.{IsPlace, IsRefused, IsStrict, fault_of, line_of};
 
 use crate::state::State;
@@ -104,6 +104,11 @@ pub fn check_text(text: &[u8]) -> Result<(), Refusal>
         line: line_at(text, place),
     })
 }
+
+/// A text that is refused isn't one of the grammar.
+pub fn law_refused()
+    ensures { (text : List ℕ) (refusal : Refusal) → IsRefused text refusal → ¬ IsStrict text }
+{}
 
 /// The line, from 1, on which the record begins that comes after that many others.
 pub fn line_of_record(text: &[u8], count: u64) -> u64 {

@@ -8,5 +8,5 @@
 mod checking;
 mod state;
 
-pub use checking::{Fault, Refusal, check_text, line_of_record};
+pub use checking::{Fault, Refusal, check_text, law_refused, line_of_record};
 pub use state::State;

@@ -54,11 +54,10 @@ fn is_table(tables: &[Table], name: &[u8]) -> bool {
     tables.iter().any(|table| table.name.as_slice() == name)
 }
 
-/// Whether a constant has that name.
-fn is_constant(constants: &[Constant], name: &[u8]) -> bool {
-    constants
-        .iter()
-        .any(|constant| constant.name.as_slice() == name)
+/// Whether a constant has that name, or that text.
+fn is_constant(constants: &[Constant], name: &[u8], text: &[u8]) -> bool {
+    constants.iter().any(|constant| constant.name.as_slice() == name
+        || constant.text.as_slice() == text)
 }
 
 /// The place of a column by its name in the header row.
@@ -190,7 +189,7 @@ fn add_constant(
     if !is_name(name) {
         return Err(LineError::Fault(Fault::Malformed));
     }
-    if is_constant(schema.constants.as_slice(), name) {
+    if is_constant(schema.constants.as_slice(), name, text) {
         return Err(LineError::Fault(Fault::NameInUse));
     }
     let name = Vec::from_slice(alloc, name)?;

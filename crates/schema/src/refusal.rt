@@ -15,8 +15,8 @@ pub enum Fault {
     /// The value after `or` is no cell of its column.
     #[error("no cell of this column")]
     BadValue,
-    /// Another input, output, constant or column of the table has that name.
-    #[error("a name that is in use")]
+    /// Another input, output, constant or column of the table has that name, or another constant that text.
+    #[error("a name or a constant's text that is in use")]
     NameInUse,
     /// A table has 1 to 16 columns.
     #[error("a table without columns, or with more than 16")]

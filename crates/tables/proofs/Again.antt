@@ -9,7 +9,7 @@ use Rattle.csv.proofs.RoundTrip.{read-write}
 use Rattle.tables.specs.Files.{IsDictionaryFile, csv_text, dictionary_rows}
 use Rattle.tables.specs.Tables.{IsReadDictionary}
 
-once : (p q : Read) → Some p ≡ Some q → p ≡ q
+pub once : (p q : Read) → Some p ≡ Some q → p ≡ q
 once p q e = cc e
 
 -- the first record of what was written, and those after it

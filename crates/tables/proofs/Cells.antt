@@ -1,8 +1,8 @@
 -- The cells of a record, by their places.
-use Rattle.std.proofs.Common.{◌≡◌, ◌<◌, ℕ, zero, suc, List, [], ◌∷◌, Bool, true, false, not, Some, None, length, ◌++◌, refl, ap, arith, inl, inr}
+use Rattle.std.proofs.Common.{◌≡◌, ◌<◌, ◌≤◌, ℕ, zero, suc, List, [], ◌∷◌, Bool, true, false, not, Some, None, length, ◌++◌, refl, ap, arith, inl, inr}
 use Rattle.std.specs.Prelude.{codes, slice_get}
-use Rattle.std.proofs.lemmas.List.{map-append}
-use Rattle.csv_cells.specs.Texts.{IsAdded}
+use Rattle.std.proofs.lemmas.List.{length-append, map-append}
+use Rattle.csv_cells.specs.Texts.{HasText, IsAdded}
 use Rattle.tables.specs.Files.{dictionary_rows}
 
 -- a place that there is has something
@@ -33,3 +33,8 @@ last-added text old new (inr more) less = more.1
 -- one more text of a dictionary's file
 pub dictionary-push : (texts : List (List ℕ)) (text : List ℕ) → dictionary_rows (texts ++ text ∷ []) ≡ dictionary_rows texts ++ (text ∷ []) ∷ []
 dictionary-push texts text = ap (λ (rows : List (List (List ℕ))). (codes "text" ∷ []) ∷ rows) (map-append (λ (t : List ℕ). t ∷ []) texts (text ∷ []))
+
+-- a text that makes it no longer was there
+pub not-added : (text : List ℕ) (old new : List (List ℕ)) → IsAdded text old new → length new ≤ length old → HasText text old
+not-added text old new (inl same) less = same.0
+not-added text old new (inr more) less = let e = ap length more.1 in absurd (omega (arith, e, length-append old (text ∷ [])))

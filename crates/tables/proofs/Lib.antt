@@ -5,3 +5,8 @@ pub mod Cells
 pub mod Again
 pub mod Joined
 pub mod Marks
+pub mod Cut
+pub mod Refused
+pub mod Faulty
+pub mod NoLines
+pub mod NoInput

@@ -1,8 +1,10 @@
 -- The lines of records, one after another.
-use Rattle.std.proofs.Common.{◌≡◌, ◌++◌, ◌∙◌, ℕ, ℤ, List, [], ◌∷◌, Option, refl, sym, ap}
+use Rattle.std.proofs.Common.{◌≡◌, ◌++◌, ◌∙◌, ℕ, ℤ, List, [], ◌∷◌, Option, Some, None, refl, sym, ap}
 use Rattle.std.proofs.lemmas.List.{append-nil, append_assoc}
 use Rattle.csv_cells.specs.Encoded.{line_text}
-use Rattle.tables.specs.Tables.{epoch_of, head_text, rows_text}
+use Rattle.schema.specs.declared.tables.Epochs.{Epochs}
+use Rattle.schema.specs.declared.tables.Epochs.TheVariants.{One, By, Every}
+use Rattle.tables.specs.Tables.{AreInOrder, IsLate, epoch_of, head_text, rows_text}
 use Rattle.tables.specs.declared.rows.Target.{Target}
 
 -- the epoch of the last record, after one of that epoch
@@ -34,3 +36,31 @@ no-rows target last = refl
 pub no-epoch : (target : Target) (last : Option ℤ) → last ≡ last_epoch target last []
 unfolding last_epoch
 no-epoch target last = refl
+
+pub none-ordered : (epochs : Epochs) (last : Option ℤ) → AreInOrder epochs last []
+unfolding AreInOrder
+none-ordered epochs last = tt
+
+-- one more record that isn't late, and one that is
+pub order-push : (target : Target) (last : Option ℤ) (numbers : List (List ℤ)) (zs : List ℤ) → AreInOrder target.epochs last numbers
+    → (IsLate (last_epoch target last numbers) (epoch_of target.epochs zs) → ⊥) → AreInOrder target.epochs last (numbers ++ zs ∷ [])
+unfolding AreInOrder last_epoch
+order-push target last [] zs h ok = (ok, tt)
+order-push target last (n ∷ numbers) zs h ok = (h.0, order-push target (epoch_of target.epochs n) numbers zs h.1 ok)
+
+pub late-push : (target : Target) (last : Option ℤ) (numbers : List (List ℤ)) (zs : List ℤ) → IsLate (last_epoch target last numbers) (epoch_of target.epochs zs)
+    → AreInOrder target.epochs last (numbers ++ zs ∷ []) → ⊥
+unfolding AreInOrder last_epoch
+late-push target last [] zs late h = h.0 late
+late-push target last (n ∷ numbers) zs late h = late-push target (epoch_of target.epochs n) numbers zs late h.1
+
+-- only by a column is a record late
+pub late-by : (epochs : Epochs) (last : Option ℤ) (zs : List ℤ) → IsLate last (epoch_of epochs zs) → (i : ℕ) × (epochs ≡ By i)
+late-by One None zs late = absurd late
+late-by One (Some y) zs late = absurd late
+late-by Every None zs late = absurd late
+late-by Every (Some y) zs late = absurd late
+late-by (By i) last zs late = (i, refl)
+
+pub now-late : (a b x y : Option ℤ) → a ≡ b → x ≡ y → IsLate b y → IsLate a x
+now-late a b x y e f late = rw (e, f) late

@@ -1,5 +1,5 @@
 -- An answer as a CSV file.
-use Rattle.std.specs.Prelude.{◌≡◌, ◌<◌, ◌^◌, ◌⊎◌, ◌↔◌, IsTrue, ◌==◌, ℕ, ℤ, List, [], ◌∷◌, ◌++◌, Bool, true, false, Option, Some, None, codes, decimal}
+use Rattle.std.specs.Prelude.{◌≡◌, ◌≢◌, ◌<◌, ◌+◌, ◌^◌, ◌⊎◌, ◌↔◌, IsTrue, ◌==◌, ℕ, ℤ, List, [], ◌∷◌, ◌++◌, Bool, true, false, Option, Some, None, codes, decimal, length, ⊤}
 use Rattle.std.specs.List.{list_any}
 use Rattle.std.specs.Fmt.{signed_decimal}
 use Rattle.csv_cells.specs.Cells.{Spells}
@@ -7,6 +7,9 @@ use Rattle.csv_cells.specs.declared.column.Column.{Column}
 use Rattle.schema.specs.Text.{names_of}
 use Rattle.schema.specs.declared.tables.Table.{Table}
 use Rattle.tables.specs.declared.decoding.Place.{Place}
+use Rattle.tables.specs.declared.refusal.Fault.TheVariants.{Answer}
+use Rattle.tables.specs.declared.refusal.TableRefusal.{TableRefusal}
+use Rattle.tables.specs.declared.refusal.TableRefusal.TheVariants.{At, NoMemory}
 use Rattle.tables.specs.Files.{csv_text, labelled}
 
 -- a line feed ends each line, and stands in none
@@ -84,3 +87,26 @@ header_of table with_epochs = labelled (label_for with_epochs (codes "epoch")) (
 -- the file of an answer: the header row, and the rows of all its lines
 abbrev pub IsDecoded : Table → (with_epochs : Bool) → (texts : List (List ℕ)) → (answer file : List ℕ) → Type 0
 IsDecoded table with_epochs texts answer file = (rows : List (List (List ℕ))) × AreDecoded table with_epochs texts answer rows × (file ≡ csv_text (header_of table with_epochs ∷ rows))
+
+-- the text has a byte, and begins with no line that adds rows
+abbrev pub IsFaultyFrom : Table → (with_epochs : Bool) → (texts : List (List ℕ)) → Where → (text : List ℕ) → Type 0
+IsFaultyFrom table with_epochs texts here text = (text ≢ []) × ((line rest : List ℕ) (rows : List (List (List ℕ))) (next : Where)
+    → text ≡ line ++ 10 ∷ rest → list_any (λ b. b == 10) line ≡ false → ¬ Adds table with_epochs texts here line rows next)
+
+-- each line before that one adds its rows, and what comes then is faulty
+pub record IsFirstFault (table : Table) (with_epochs : Bool) (texts : List (List ℕ)) (answer : List ℕ) (line : ℕ) : Type 0 where
+  pub front : List ℕ
+  pub rest : List ℕ
+  pub cut : answer ≡ front ++ rest
+  pub lines : List (List ℕ)
+  pub before : AreLines front lines
+  pub rows : List (List (List ℕ))
+  pub here : Where
+  pub decoded : AreRows table with_epochs texts outside lines rows here
+  pub counted : line ≡ length lines + 1
+  pub faulty : IsFaultyFrom table with_epochs texts here rest
+
+-- why an answer has no file
+abbrev pub IsRefusedAnswer : Table → (with_epochs : Bool) → (texts : List (List ℕ)) → (answer : List ℕ) → TableRefusal → Type 0
+IsRefusedAnswer table with_epochs texts answer (At fault line) = (fault ≡ Answer) × IsFirstFault table with_epochs texts answer line
+IsRefusedAnswer table with_epochs texts answer NoMemory = ⊤

@@ -1,14 +1,20 @@
 -- The input text of a schema's tables.
-use Rattle.std.specs.Prelude.{◌≡◌, ◌≢◌, ◌⊎◌, ℕ, suc, List, [], ◌∷◌, ◌++◌, Bool, true, false, codes, get_or}
+use Rattle.std.specs.Prelude.{◌≡◌, ◌≢◌, ◌⊎◌, ℕ, suc, List, [], ◌∷◌, ◌++◌, Bool, true, false, Some, codes, get_or, slice_get, ⊤}
 use Rattle.std.specs.List.{list_any}
 use Rattle.csv.specs.Reading.{strip_bom}
+use Rattle.csv_cells.specs.Texts.{Grows, HasText, IsAdded}
 use Rattle.csv_strict.specs.Strict.{IsStrict}
 use Rattle.schema.specs.Text.{names_of}
 use Rattle.schema.specs.declared.tables.Epochs.{Epochs}
 use Rattle.schema.specs.declared.tables.Epochs.TheVariants.{One, By, Every}
+use Rattle.schema.specs.declared.tables.Constant.{Constant}
 use Rattle.schema.specs.declared.tables.Schema.{Schema}
 use Rattle.schema.specs.declared.tables.Table.{Table}
-use Rattle.tables.specs.Tables.{AreEncoded}
+use Rattle.tables.specs.Tables.{AreEncoded, AreRefused, IsRefusedText}
+use Rattle.tables.specs.declared.refusal.EncodeRefusal.{EncodeRefusal}
+use Rattle.tables.specs.declared.refusal.RecordFault.TheVariants.{Fault as InRecord}
+use Rattle.tables.specs.declared.refusal.TableRefusal.{TableRefusal}
+use Rattle.tables.specs.declared.refusal.TableRefusal.TheVariants.{At, NoMemory}
 use Rattle.tables.specs.declared.rows.Target.{Target}
 
 -- whether a table has an epoch for each value of a column
@@ -41,3 +47,28 @@ abbrev pub IsInput : Schema → (files texts : List (List ℕ)) → (out : List 
 IsInput schema files texts out = (shared : List ℕ) × AreJoined false [] files texts 0 schema.inputs.items shared
     × (((list_any (λ table. has_own table.epochs) schema.inputs.items ≡ true) × AreJoined true shared files texts 0 schema.inputs.items out)
     ⊎ ((list_any (λ table. has_own table.epochs) schema.inputs.items ≡ false) × (out ≡ codes "epoch" ++ 10 ∷ shared)))
+
+-- why a table's file is refused: its text isn't strict, or has no lines
+abbrev pub IsRefusedFile : Table → (file : List ℕ) → (texts : List (List ℕ)) → TableRefusal → Type 0
+IsRefusedFile table file texts (At fault line) = IsRefusedText (strip_bom file) fault line
+    ⊎ (IsStrict (strip_bom file) × AreRefused (names_of table) table.columns.items table.epochs (strip_bom file) texts (InRecord fault))
+IsRefusedFile table file texts NoMemory = ⊤
+
+-- why there is no input text: the file of one table is refused, or memory lacks
+abbrev pub IsRefusedInput : List Table → (files texts : List (List ℕ)) → EncodeRefusal → Type 0
+IsRefusedInput tables files texts r =
+    ((table : Table) × (slice_get tables r.file ≡ Some table) × IsRefusedFile table (get_or files r.file []) texts r.refusal) ⊎ (r.refusal ≡ NoMemory)
+
+-- the constants' texts, one after another: each is there, or comes to the end
+unfoldable pub AreAdded : List Constant → (old new : List (List ℕ)) → Type 0
+AreAdded [] old new = new ≡ old
+AreAdded (constant ∷ constants) old new = (next : List (List ℕ)) × IsAdded constant.text.items old next × AreAdded constants next new
+
+-- the constants are numbered before any cell
+abbrev pub AreNumbered : List Constant → (old new : List (List ℕ)) → Type 0
+AreNumbered constants old new = (next : List (List ℕ)) × AreAdded constants old next × Grows next new
+
+-- each constant's text differs from these and from those of the constants before it
+unfoldable pub AreNew : (texts : List (List ℕ)) → List Constant → Type 0
+AreNew texts [] = ⊤
+AreNew texts (constant ∷ constants) = (¬ HasText constant.text.items texts) × AreNew (texts ++ constant.text.items ∷ []) constants

@@ -1,8 +1,12 @@
 //! An answer as a CSV file.
 
-ghost use Rattle.std.specs.Prelude.{◌≡◌, ◌≢◌, ◌++◌, List, IfNone, IfOk, IfSome, OnOk, codes, false, true, map, option_map, ℕ};
+ghost use Rattle.tables.specs.declared.refusal.Fault.TheVariants as fault;
+ghost use Rattle.tables.specs.declared.refusal.TableRefusal.TheVariants as refusal;
+ghost use Rattle.std.specs.Prelude.{◌≡◌, ◌≢◌, ◌<◌, ◌++◌, List, Bool, FitsSigned, IfErr, IfNone, IfOk, IfSome, OnOk, codes, false, get_or, length, true, map, option_map, pos, ℕ, ℤ};
+ghost use Rattle.std.specs.Int.{w64};
 ghost use Rattle.csv_cells.specs.Texts.{texts_of};
-ghost use Rattle.tables.specs.Answers.{Adds, AreDecoded, Begins, HasCells, IsDecoded, IsEpoch, IsOfRecord, IsOutput, label_for, where_of, words_text};
+ghost use Rattle.tables.specs.Answers.{Adds, AreDecoded, Begins, HasCells, IsDecoded, IsEpoch, IsFirstFault, IsOfRecord, IsOutput, IsRefusedAnswer, Where, label_for, where_of, words_text};
+ghost use Rattle.schema.specs.declared.tables.Table.{Table};
 ghost use Rattle.tables.specs.Files.{IsFile};
 
 use crate::refusal::{Fault, TableRefusal};
@@ -13,11 +17,16 @@ use decimal::{number, signed_number};
 use schema::Table;
 use std::alloc::{AllocError, Global};
 
-/// The numbers of a line, each after one space but the first; `None` if a word is no number.
+/// The numbers of a line, each after one space but the first; `None` if a word is no number. An empty line has none.
 fn numbers_of(alloc: Global, line: &[u8]) -> Result<Option<Vec<i64>>, AllocError>
-    ensures { IfOk result (λ o. IfSome o (λ v. line.now ≡ words_text v.items)) }
+    ensures found { IfOk result (λ o. IfSome o (λ v. line.now ≡ words_text v.items)) }
+    ensures fit { IfOk result (λ o. IfSome o (λ v. (i : ℕ) → i < length v.items → FitsSigned w64 (get_or v.items i (pos 0)))) }
+    ensures none { IfOk result (λ o. IfNone o ((numbers : List ℤ) → ((i : ℕ) → i < length numbers → FitsSigned w64 (get_or numbers i (pos 0))) → line.now ≢ words_text numbers)) }
 {
     let mut numbers = Vec::new(alloc);
+    if line.is_empty() {
+        return Ok(Some(numbers));
+    }
     let mut begin = 0;
     for end in 0..line.len() {
         if line[end] == b' ' {
@@ -42,7 +51,8 @@ fn cells_of(
     dictionary: &Dictionary,
     line: &[u8],
 ) -> Result<Option<Vec<Vec<u8>>>, AllocError>
-    ensures { IfOk result (λ o. IfSome o (λ v. HasCells columns.now (texts_of dictionary.now) line.now (map (λ w. w.items) v.items))) }
+    ensures found { IfOk result (λ o. IfSome o (λ v. HasCells columns.now (texts_of dictionary.now) line.now (map (λ w. w.items) v.items))) }
+    ensures none { IfOk result (λ o. IfNone o ((cells : List (List ℕ)) → ¬ HasCells columns.now (texts_of dictionary.now) line.now cells)) }
 {
     match numbers_of(alloc, line)? {
         Some(numbers) => write_row(alloc, columns, dictionary, numbers.as_slice()),
@@ -126,8 +136,9 @@ fn write_line<'a>(
     writer: &mut Writer<Vec<u8>>,
     line: &'a [u8],
 ) -> Result<bool, AllocError>
-    ensures { IfOk result (λ found. found ≡ true → (rows : List (List (List ℕ))) → IsFile writer.old rows
+    ensures found { IfOk result (λ found. found ≡ true → (rows : List (List (List ℕ))) → IsFile writer.old rows
         → (more : List (List (List ℕ))) × Adds table.now with_epochs (texts_of dictionary.now) (where_of place.old) line.now more (where_of place.new) × IsFile writer.new (rows ++ more)) }
+    ensures none { IfOk result (λ found. found ≡ false → (more : List (List (List ℕ))) (next : Where) → ¬ Adds table.now with_epochs (texts_of dictionary.now) (where_of place.old) line.now more next) }
 {
     if take_head(place, table, line) {
         return Ok(true);
@@ -145,7 +156,9 @@ fn write_line<'a>(
 }
 
 /// The refusal of a line of an answer.
-fn refused(line: u64) -> TableRefusal {
+fn refused(line: u64) -> TableRefusal
+    ensures { result ≡ refusal.At fault.Answer line }
+{
     let fault = Fault::Answer;
     TableRefusal::At { fault, line }
 }
@@ -159,8 +172,9 @@ fn write_lines(
     writer: &mut Writer<Vec<u8>>,
     answer: &[u8],
 ) -> Result<(), TableRefusal>
-    ensures { OnOk result ((rows : List (List (List ℕ))) → IsFile writer.old rows
+    ensures written { OnOk result ((rows : List (List (List ℕ))) → IsFile writer.old rows
         → (more : List (List (List ℕ))) × AreDecoded table.now with_epochs (texts_of dictionary.now) answer.now more × IsFile writer.new (rows ++ more)) }
+    ensures refused { IfErr result (λ r. (rows : List (List (List ℕ))) → IsFile writer.old rows → IsRefusedAnswer table.now with_epochs (texts_of dictionary.now) answer.now r) }
 {
     let mut place = Place {
         epoch: b"",
@@ -170,7 +184,7 @@ fn write_lines(
     let mut begin = 0;
     for end in 0..answer.len() {
         if answer[end] == b'\n' {
-            line = line.saturating_add(1);
+            line += 1;
             let text = &answer[begin..end];
             if !write_line(
                 alloc,
@@ -187,7 +201,7 @@ fn write_lines(
         }
     }
     if begin < answer.len() {
-        return Err(refused(line.saturating_add(1)));
+        return Err(refused(line + 1));
     }
     Ok(())
 }
@@ -201,7 +215,8 @@ pub fn decode(
     dictionary: &Dictionary,
     answer: &[u8],
 ) -> Result<Vec<u8>, TableRefusal>
-    ensures { IfOk result (λ file. IsDecoded table.now with_epochs (texts_of dictionary.now) answer.now file.items) }
+    ensures decoded { IfOk result (λ file. IsDecoded table.now with_epochs (texts_of dictionary.now) answer.now file.items) }
+    ensures refused { IfErr result (λ r. IsRefusedAnswer table.now with_epochs (texts_of dictionary.now) answer.now r) }
 {
     let mut writer = new_file(alloc);
     let first = label(with_epochs, b"epoch");
@@ -211,3 +226,9 @@ pub fn decode(
     write_lines(alloc, table, with_epochs, dictionary, &mut writer, answer)?;
     finish(writer)
 }
+
+/// An answer that is refused has no rows.
+pub fn law_refused_answer()
+    ensures { (table : Table) (with_epochs : Bool) (texts : List (List ℕ)) (answer : List ℕ) (rows : List (List (List ℕ))) (line : ℕ)
+        → IsFirstFault table with_epochs texts answer line → ¬ AreDecoded table with_epochs texts answer rows }
+{}

@@ -1,10 +1,12 @@
 //! The file of a dictionary: a CSV file of one column, with the header `text`, in which a text's number is its record's, from 0.
 
-ghost use Rattle.std.specs.Prelude.{◌≡◌, ◌∷◌, ◌++◌, [], IfOk, OnOk, List, Some, map, slice_get, true, ℕ};
+ghost use Rattle.tables.specs.declared.refusal.TableRefusal.TheVariants as refusal;
+ghost use Rattle.std.specs.Prelude.{◌≡◌, ◌≢◌, ◌∷◌, ◌++◌, [], IfErr, IfOk, OnOk, List, Some, false, map, slice_get, true, ℕ};
 ghost use Rattle.csv.specs.Records.{fields_of};
-ghost use Rattle.csv_cells.specs.Texts.{texts_of};
+ghost use Rattle.csv_cells.specs.Texts.{HasText, texts_of};
 ghost use Rattle.tables.specs.Files.{IsDictionaryFile, IsFile, dictionary_rows};
-ghost use Rattle.tables.specs.Tables.{IsReadDictionary};
+ghost use Rattle.tables.specs.Tables.{IsReadDictionary, IsRefusedDictionary};
+ghost use Rattle.csv_strict.specs.Strict.{IsStrict};
 
 use crate::header::under_header;
 use crate::refusal::{Fault, RecordFault, TableRefusal};
@@ -23,7 +25,9 @@ fn add_text(
     dictionary: &mut Dictionary,
     row: &ByteRecord,
 ) -> Result<bool, TableRefusal>
-    ensures { IfOk result (λ added. added ≡ true → (text : List ℕ) × (fields_of row.now ≡ text ∷ []) × (texts_of dictionary.new ≡ texts_of dictionary.old ++ text ∷ [])) }
+    ensures added { IfOk result (λ added. added ≡ true → (text : List ℕ) × (fields_of row.now ≡ text ∷ []) × (texts_of dictionary.new ≡ texts_of dictionary.old ++ text ∷ [])) }
+    ensures other { IfOk result (λ added. added ≡ false → (text : List ℕ) → fields_of row.now ≡ text ∷ [] → HasText text (texts_of dictionary.old)) }
+    ensures refused { IfErr result (λ r. r ≡ refusal.NoMemory) }
 {
     let count = dictionary.len();
     if row.len() != 1 {
@@ -42,7 +46,8 @@ fn add_text(
 
 /// The names of the columns.
 fn names(alloc: Global) -> Result<Vec<Vec<u8>>, TableRefusal>
-    ensures { IfOk result (λ names. map (λ v. v.items) names.items ≡ HEADER.now ∷ []) }
+    ensures named { IfOk result (λ names. map (λ v. v.items) names.items ≡ HEADER.now ∷ []) }
+    ensures refused { IfErr result (λ r. r ≡ refusal.NoMemory) }
 {
     let mut names = Vec::new(alloc);
     names.push(Vec::from_slice(alloc, HEADER)?)?;
@@ -51,7 +56,10 @@ fn names(alloc: Global) -> Result<Vec<Vec<u8>>, TableRefusal>
 
 /// The texts of the records under the header row.
 fn read_texts(alloc: Global, text: &[u8]) -> Result<Dictionary, TableRefusal>
-    ensures { IfOk result (λ dictionary. IsReadDictionary text.now (texts_of dictionary)) }
+    requires strict { IsStrict text.now }
+    requires some { text.now ≢ [] }
+    ensures read { IfOk result (λ dictionary. IsReadDictionary text.now (texts_of dictionary)) }
+    ensures refused { IfErr result (IsRefusedDictionary text.now) }
 {
     let names = names(alloc)?;
     let reader = match under_header(alloc, text, names.as_slice()) {
@@ -77,7 +85,8 @@ fn read_texts(alloc: Global, text: &[u8]) -> Result<Dictionary, TableRefusal>
 
 /// Reads the file of a dictionary. An empty one has no texts.
 pub fn read_dictionary(alloc: Global, text: &[u8]) -> Result<Dictionary, TableRefusal>
-    ensures { IfOk result (λ dictionary. IsReadDictionary text.now (texts_of dictionary)) }
+    ensures read { IfOk result (λ dictionary. IsReadDictionary text.now (texts_of dictionary)) }
+    ensures refused { IfErr result (IsRefusedDictionary text.now) }
 {
     if text.is_empty() {
         return Ok(Dictionary::new(alloc));

@@ -1,10 +1,17 @@
 //! CSV files as an input text.
 
-ghost use Rattle.std.specs.Prelude.{◌≡◌, ◌++◌, ◌∷◌, [], IfOk, OnOk, codes, get_or, map};
+ghost use Rattle.schema.specs.declared.tables.Constant.{Constant};
+ghost use Rattle.schema.specs.declared.tables.Schema.{Schema};
+ghost use Rattle.schema.specs.declared.tables.Table.{Table};
+ghost use Rattle.schema.specs.Text.{IsSchemaText};
+ghost use Rattle.tables.specs.declared.refusal.Fault.{Fault};
+ghost use Rattle.tables.specs.declared.refusal.Fault.TheVariants.{Order};
+ghost use Rattle.std.specs.Prelude.{◌≡◌, ◌≢◌, ◌++◌, ◌∷◌, [], IfErr, IfOk, List, OnOk, Some, codes, get_or, slice_get, map, ℕ};
 ghost use Rattle.std.specs.List.{list_any};
 ghost use Rattle.csv.specs.Reading.{strip_bom};
 ghost use Rattle.csv_cells.specs.Texts.{Grows, texts_of};
-ghost use Rattle.tables.specs.Inputs.{AreJoined, IsEncodedFile, IsInput, IsPart, has_own};
+ghost use Rattle.tables.specs.Inputs.{AreAdded, AreJoined, AreNew, AreNumbered, IsEncodedFile, IsInput, IsPart, IsRefusedFile, IsRefusedInput, has_own};
+ghost use Rattle.tables.specs.declared.refusal.TableRefusal.TheVariants as refusal;
 
 use crate::refusal::{EncodeRefusal, Fault, RecordFault, TableRefusal};
 use crate::rows::{Target, encode_rows};
@@ -35,6 +42,7 @@ fn encode_table(
     file: &[u8],
 ) -> Result<Vec<u8>, TableRefusal>
     ensures encoded { IfOk result (λ lines. IsEncodedFile table.now shared.now file.now (texts_of dictionary.new) lines.items) }
+    ensures refused { IfErr result (IsRefusedFile table.now file.now (texts_of dictionary.new)) }
     ensures grows { OnOk result (Grows (texts_of dictionary.old) (texts_of dictionary.new)) }
 {
     let text = without_mark(file);
@@ -87,6 +95,7 @@ fn encode_part(
     file: &[u8],
 ) -> Result<Vec<u8>, TableRefusal>
     ensures part { IfOk result (λ lines. IsPart own table.now shared.now file.now (texts_of dictionary.new) lines.items) }
+    ensures refused { IfErr result (IsRefusedFile table.now file.now (texts_of dictionary.new)) }
     ensures grows { OnOk result (Grows (texts_of dictionary.old) (texts_of dictionary.new)) }
 {
     if has_own(table.epochs) != own {
@@ -116,6 +125,7 @@ fn encode_some(
     files: &[Vec<u8>],
 ) -> Result<Vec<u8>, EncodeRefusal>
     ensures joined { IfOk result (λ out. AreJoined own shared.now (map (λ v. v.items) files.now) (texts_of dictionary.new) 0 schema.now.inputs.items out.items) }
+    ensures refused { IfErr result (IsRefusedInput schema.now.inputs.items (map (λ v. v.items) files.now) (texts_of dictionary.new)) }
     ensures grows { OnOk result (Grows (texts_of dictionary.old) (texts_of dictionary.new)) }
 {
     let mut out = Vec::new(alloc);
@@ -146,7 +156,7 @@ fn number_constants(
     constants: &[Constant],
     dictionary: &mut Dictionary,
 ) -> Result<(), AllocError>
-    ensures { OnOk result (Grows (texts_of dictionary.old) (texts_of dictionary.new)) }
+    ensures { OnOk result (AreAdded constants.now (texts_of dictionary.old) (texts_of dictionary.new)) }
 {
     for i in 0..constants.len() {
         dictionary.number(alloc, constants[i].text.as_slice())?;
@@ -165,7 +175,9 @@ fn one_epoch(alloc: Global, lines: &[u8]) -> Result<Vec<u8>, AllocError>
 }
 
 /// Lack of memory, told of the first file.
-fn no_memory() -> EncodeRefusal {
+fn no_memory() -> EncodeRefusal
+    ensures { result.refusal ≡ refusal.NoMemory }
+{
     let refusal = TableRefusal::NoMemory;
     EncodeRefusal { file: 0, refusal }
 }
@@ -180,7 +192,9 @@ pub fn encode(
     files: &[Vec<u8>],
 ) -> Result<Vec<u8>, EncodeRefusal>
     ensures input { IfOk result (λ out. IsInput schema.now (map (λ v. v.items) files.now) (texts_of dictionary.new) out.items) }
+    ensures refused { IfErr result (IsRefusedInput schema.now.inputs.items (map (λ v. v.items) files.now) (texts_of dictionary.new)) }
     ensures grows { OnOk result (Grows (texts_of dictionary.old) (texts_of dictionary.new)) }
+    ensures numbered { OnOk result (AreNumbered schema.now.constants.items (texts_of dictionary.old) (texts_of dictionary.new)) }
 {
     if number_constants(alloc, schema.constants.as_slice(), dictionary).is_err() {
         return Err(no_memory());
@@ -195,3 +209,14 @@ pub fn encode(
         Err(_) => Err(no_memory()),
     }
 }
+
+/// Of files that are refused, but for a record that is late, there is no input text by any dictionary, if the schema has a text.
+pub fn law_refused_input()
+    ensures { (schema : Schema) (text : List ℕ) (files texts others : List (List ℕ)) (out : List ℕ) (file : ℕ) (table : Table) (fault : Fault) (line : ℕ) → IsSchemaText schema text
+        → ((place : ℕ) → fault ≢ Order place) → slice_get schema.inputs.items file ≡ Some table → IsRefusedFile table (get_or files file []) texts (refusal.At fault line) → ¬ IsInput schema files others out }
+{}
+
+/// In a new dictionary a constant's number is its place among the constants, if their texts differ.
+pub fn law_constants()
+    ensures { (constants : List Constant) (texts : List (List ℕ)) → AreNew [] constants → AreAdded constants [] texts → texts ≡ map (λ constant. constant.text.items) constants }
+{}

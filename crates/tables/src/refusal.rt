@@ -1,5 +1,9 @@
 //! Why a table is refused.
 
+ghost use Rattle.tables.specs.declared.refusal.TableRefusal.TheVariants as refusal;
+ghost use Rattle.std.specs.Prelude.{◌≡◌};
+ghost use Rattle.tables.specs.Tables.{fault_of_row};
+
 use csv_cells::RowFault;
 use std::alloc::{AllocError, AllocFailed};
 
@@ -37,12 +41,16 @@ pub struct EncodeRefusal {
 }
 
 impl From<AllocError> for TableRefusal {
+    ghost from_gives = { λ _ r. r ≡ refusal.NoMemory };
+
     fn from(_e: AllocError) -> TableRefusal {
         TableRefusal::NoMemory
     }
 }
 
 impl<T: Drop> From<AllocFailed<T>> for TableRefusal {
+    ghost from_gives = { λ _ r. r ≡ refusal.NoMemory };
+
     fn from(_e: AllocFailed<T>) -> TableRefusal {
         TableRefusal::NoMemory
     }
@@ -56,7 +64,9 @@ pub enum RecordFault {
 }
 
 /// The fault of a record without numbers.
-pub fn fault_of_row(fault: RowFault) -> RecordFault {
+pub fn fault_of_row(fault: RowFault) -> RecordFault
+    ensures { result ≡ fault_of_row fault }
+{
     match fault {
         RowFault::Length => RecordFault::Fault(Fault::Length),
         RowFault::Cell(place) => RecordFault::Fault(Fault::Cell(place)),

@@ -1,8 +1,11 @@
 //! The records of a CSV text as lines of an input text.
 
-ghost use Rattle.std.specs.Prelude.{◌≡◌, ◌++◌, IfOk, OnOk, map, true};
+ghost use Rattle.schema.specs.declared.tables.Epochs.TheVariants.{By};
+ghost use Rattle.tables.specs.declared.refusal.Fault.TheVariants as fault;
+ghost use Rattle.tables.specs.declared.refusal.RecordFault.TheVariants as record_fault;
+ghost use Rattle.std.specs.Prelude.{◌≡◌, ◌↔◌, ◌++◌, IfErr, IfOk, IsTrue, OnOk, map, ℕ};
 ghost use Rattle.csv_cells.specs.Texts.{Grows, texts_of};
-ghost use Rattle.tables.specs.Tables.{AreEncoded, epoch_of, head_text};
+ghost use Rattle.tables.specs.Tables.{AreEncoded, AreRefused, IsLate, epoch_of, head_text};
 ghost use Rattle.csv_cells.specs.Encoded.{line_text};
 
 use crate::header::under_header;
@@ -49,7 +52,9 @@ fn append_head(
 }
 
 /// Whether the epoch of a record comes before that of the one before.
-fn is_late(last: Option<i64>, epoch: Option<i64>) -> bool {
+fn is_late(last: Option<i64>, epoch: Option<i64>) -> bool
+    ensures { IsTrue result ↔ IsLate last epoch }
+{
     match (last, epoch) {
         (Some(before), Some(now)) => now < before,
         _ => false,
@@ -57,7 +62,9 @@ fn is_late(last: Option<i64>, epoch: Option<i64>) -> bool {
 }
 
 /// The fault of a record that comes too late.
-fn late_fault(epochs: Epochs) -> RecordFault {
+fn late_fault(epochs: Epochs) -> RecordFault
+    ensures { (place : ℕ) → epochs ≡ By place → result ≡ record_fault.Fault (fault.Order place) }
+{
     match epochs {
         Epochs::By(place) => RecordFault::Fault(Fault::Order(place)),
         Epochs::One | Epochs::Every => RecordFault::Fault(Fault::Order(0)),
@@ -91,7 +98,9 @@ fn append_row(
 }
 
 /// Lack of memory after that many records.
-fn no_memory(count: u64) -> RowRefusal {
+fn no_memory(count: u64) -> RowRefusal
+    ensures { result.fault ≡ record_fault.NoMemory }
+{
     let fault = RecordFault::NoMemory;
     RowRefusal { count, fault }
 }
@@ -107,6 +116,7 @@ pub fn encode_rows(
     text: &[u8],
 ) -> Result<Vec<u8>, RowRefusal>
     ensures encoded { IfOk result (λ out. AreEncoded (map (λ v. v.items) names.now) columns.now target.entry text.now (texts_of dictionary.new) out.items) }
+    ensures refused { IfErr result (λ r. AreRefused (map (λ v. v.items) names.now) columns.now target.entry.epochs text.now (texts_of dictionary.new) r.fault) }
     ensures grows { OnOk result (Grows (texts_of dictionary.old) (texts_of dictionary.new)) }
 {
     let reader = match under_header(alloc, text, names) {

@@ -1,6 +1,7 @@
 //! A CSV file that is written record by record.
 
-ghost use Rattle.std.specs.Prelude.{◌≡◌, ◌++◌, ◌∷◌, [], IfOk, IfSome, List, map, option_map, ℕ};
+ghost use Rattle.std.specs.Prelude.{◌≡◌, ◌++◌, ◌∷◌, [], IfErr, IfOk, IfSome, List, map, option_map, ℕ};
+ghost use Rattle.tables.specs.declared.refusal.TableRefusal.TheVariants as refusal;
 ghost use Rattle.tables.specs.Files.{HasBegun, IsBetween, IsFile, csv_text, labelled};
 
 use crate::refusal::TableRefusal;
@@ -50,7 +51,8 @@ pub fn write_cells(
 
 /// The text of the records that were written.
 pub fn finish(writer: Writer<Vec<u8>>) -> Result<Vec<u8>, TableRefusal>
-    ensures { IfOk result (λ text. (rows : List (List (List ℕ))) → IsFile writer rows → text.items ≡ csv_text rows) }
+    ensures written { IfOk result (λ text. (rows : List (List (List ℕ))) → IsFile writer rows → text.items ≡ csv_text rows) }
+    ensures refused { IfErr result (λ r. r ≡ refusal.NoMemory) }
 {
     match writer.into_inner() {
         Ok(text) => Ok(text),

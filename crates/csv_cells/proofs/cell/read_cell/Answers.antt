@@ -1,4 +1,4 @@
-use Rattle.std.proofs.Common.{rules, ◌≡◌, ◌∙◌, Some, FitsSigned, w64, ap}
+use Rattle.std.proofs.Common.{rules, ◌∙◌, Some, FitsSigned, w64, ap}
 use Rattle.std.proofs.Math.Facts.{to_z-of_z}
 use Rattle.csv_cells.proofs.Rows.{number-empty}
 use Rattle.csv_cells.proofs.cell.read_cell.Goals as goal

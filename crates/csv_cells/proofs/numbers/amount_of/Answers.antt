@@ -1,7 +1,6 @@
-use Rattle.std.proofs.Common.{rules, ◌≡◌, ◌/◌, ◌^◌, ◌∙◌, ℕ, Some, refl, sym, ap, arith, drop}
+use Rattle.std.proofs.Common.{rules, ◌≡◌, ◌/◌, ◌^◌, ◌∙◌, Some, refl, sym, ap, arith}
 use Rattle.std.proofs.lemmas.Fmt.{decimal_injective}
 use Rattle.std.proofs.Math.Nat.{div-le_self}
-use Rattle.csv_cells.specs.Numbers.{joined}
 use Rattle.csv_cells.proofs.Joined.{amount-long, amount-front, amount-back, amount-whole}
 use Rattle.csv_cells.proofs.numbers.amount_of.Goals as goal
 

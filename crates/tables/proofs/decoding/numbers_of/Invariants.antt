@@ -1,4 +1,5 @@
-use Rattle.std.proofs.Common.{◌≡◌, ◌≤◌, take}
+use Rattle.std.proofs.Common.{◌≡◌, ◌≤◌, drop, take}
+use Rattle.tables.proofs.Cut.{Fit, Free}
 use Rattle.tables.proofs.Decoded.{begun_text}
 use Rattle.tables.proofs.decoding.numbers_of.Given as goal
 
@@ -6,4 +7,6 @@ abbrev pub invariant-loop-end : goal.invariant-loop-end
 invariant-loop-end l = record {
   within : l.begin ≤ l.end;
   read : take l.begin l.line ≡ begun_text l.numbers.items;
+  free : Free 32 (drop l.begin (take l.end l.line));
+  fit : Fit l.numbers.items;
 }

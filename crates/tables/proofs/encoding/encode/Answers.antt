@@ -3,9 +3,10 @@ use Rattle.std.specs.List.{list_any}
 use Rattle.csv.proofs.ReadFacts.{on-ok}
 use Rattle.csv_cells.specs.Texts.{Grows, texts_of}
 use Rattle.csv_cells.proofs.Rows.{grown-twice}
+use Rattle.schema.specs.declared.tables.Constant.{Constant}
 use Rattle.schema.specs.declared.tables.Table.{Table}
-use Rattle.tables.specs.Inputs.{AreJoined, has_own}
-use Rattle.tables.proofs.Joined.{joined-kept}
+use Rattle.tables.specs.Inputs.{AreAdded, AreJoined, has_own}
+use Rattle.tables.proofs.Joined.{constants-grow, joined-kept}
 use Rattle.tables.proofs.encoding.encode.Goals as goal
 
 pub returns-then-has_epochs-clause-input : goal.returns-then-has_epochs-clause-input
@@ -25,9 +26,21 @@ returns-then-has_epochs-clause-input c =
 pub returns-then-has_epochs-clause-grows : goal.returns-then-has_epochs-clause-grows
 returns-then-has_epochs-clause-grows c =
     let good = sym c.is_err.ensures.value ∙ c.if-is_err.false in
-    grown-twice _ _ _ (grown-twice _ _ _ (on-ok c.number_constants.result good c.number_constants.ensures) c.in_ok-shared.ensures.grows) c.in_ok-out.ensures.grows
+    grown-twice _ _ _ (grown-twice _ _ _ (constants-grow c.as_slice.result.now _ _ (on-ok c.number_constants.result good c.number_constants.ensures)) c.in_ok-shared.ensures.grows) c.in_ok-out.ensures.grows
 
 pub returns-in-Ok-clause-grows : goal.returns-in-Ok-clause-grows
 returns-in-Ok-clause-grows c =
     let good = sym c.is_err.ensures.value ∙ c.if-is_err.false in
-    grown-twice _ _ _ (on-ok c.number_constants.result good c.number_constants.ensures) c.in_ok-shared.ensures.grows
+    grown-twice _ _ _ (constants-grow c.as_slice.result.now _ _ (on-ok c.number_constants.result good c.number_constants.ensures)) c.in_ok-shared.ensures.grows
+
+pub returns-then-has_epochs-clause-numbered : goal.returns-then-has_epochs-clause-numbered
+returns-then-has_epochs-clause-numbered c =
+    let good = sym c.is_err.ensures.value ∙ c.if-is_err.false in
+    let added = subst (λ (cs : List Constant). AreAdded cs (texts_of c.args.dictionary.now) (texts_of c.number_constants.new.dictionary)) c.as_slice.ensures.value (on-ok c.number_constants.result good c.number_constants.ensures) in
+    (texts_of c.number_constants.new.dictionary, added, grown-twice _ _ _ c.in_ok-shared.ensures.grows c.in_ok-out.ensures.grows)
+
+pub returns-in-Ok-clause-numbered : goal.returns-in-Ok-clause-numbered
+returns-in-Ok-clause-numbered c =
+    let good = sym c.is_err.ensures.value ∙ c.if-is_err.false in
+    let added = subst (λ (cs : List Constant). AreAdded cs (texts_of c.args.dictionary.now) (texts_of c.number_constants.new.dictionary)) c.as_slice.ensures.value (on-ok c.number_constants.result good c.number_constants.ensures) in
+    (texts_of c.number_constants.new.dictionary, added, c.in_ok-shared.ensures.grows)

@@ -1,9 +1,10 @@
-use Rattle.std.proofs.Common.{◌≡◌, ◌++◌, ◌∷◌, ◌∙◌, ◌+◌, ◌<◌, [], ℕ, List, get_or, length, map, take, sym, subst, arith, rules}
+use Rattle.std.proofs.Common.{◌≡◌, ◌++◌, ◌∷◌, ◌∙◌, ◌+◌, ◌<◌, [], ℕ, List, get_or, length, map, take, Some, sym, ap, subst, arith, rules, inl}
 use Rattle.std.proofs.lemmas.List.{append-nil, length-take, take_more}
+use Rattle.std.proofs.lemmas.Option.{slice_get-get_or}
 use Rattle.csv_cells.specs.Texts.{Grows, texts_of}
 use Rattle.csv_cells.proofs.Rows.{grown-twice}
 use Rattle.schema.specs.declared.tables.Table.{Table}
-use Rattle.tables.specs.Inputs.{AreJoined, IsPart}
+use Rattle.tables.specs.Inputs.{AreJoined, IsPart, IsRefusedFile}
 use Rattle.tables.proofs.Joined.{joined-kept, joined-push, none-joined}
 use Rattle.tables.proofs.encoding.encode_some.Goals as goal
 
@@ -36,3 +37,14 @@ loop-file-preserved c =
       grown = grown-twice (texts_of c.args.dictionary.now) old new inv.grown grows;
       joined = rw items (subst (λ (t : List Table). AreJoined own shared files new 0 t (c.loop-file.out.items ++ c.in-Ok.lines.items)) more pushed);
     }
+
+pub returns-in-Err-clause-refused : goal.returns-in-Err-clause-refused
+returns-in-Err-clause-refused c =
+    let files : List (List ℕ) = map (λ v. v.items) c.args.files.now in
+    let tables : List Table = c.args.schema.now.inputs.items in
+    let file : ℕ = c.loop-file.file in
+    let lt : file < length tables = omega (arith, c.loop-file-test.true) in
+    let table : Table = c.index.result.now in
+    let at : get_or tables file table ≡ table = search rules in
+    let refused = subst (λ (f : List ℕ). IsRefusedFile table f (texts_of c.encode_part.new.dictionary) c.in-Err.refusal) c.text_of-text.ensures c.in-Err.ensures.refused in
+    inl (table, slice_get-get_or tables file table lt ∙ ap Some at, refused)

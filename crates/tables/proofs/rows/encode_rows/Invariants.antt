@@ -4,7 +4,7 @@ use Rattle.csv.specs.declared.parser.State.TheVariants as st
 use Rattle.csv.specs.declared.reader.Trim.TheVariants as trim
 use Rattle.csv_cells.specs.Texts.{texts_of, Grows}
 use Rattle.csv_cells.specs.Encoded.{SpellsAll}
-use Rattle.tables.specs.Tables.{rows_text}
+use Rattle.tables.specs.Tables.{AreInOrder, rows_text}
 use Rattle.tables.proofs.Lines.{last_epoch}
 use Rattle.tables.proofs.rows.encode_rows.Given as goal
 
@@ -20,6 +20,7 @@ invariant-loop-row l = record {
   reached : Reached default_config st.StartRecord (strip_bom l.fn.text) (map (λ v. v.items) l.names ∷ rows) l.row-iterator.rdr.state rest;
   all : List (List ℤ);
   spelled : SpellsAll l.columns (texts_of l.dictionary) rows all;
+  ordered : AreInOrder l.target.epochs None all;
   grown : Grows (texts_of l.fn.dictionary) (texts_of l.dictionary);
   written : l.out.items ≡ rows_text l.target None all;
   latest : l.last ≡ last_epoch l.target None all;
