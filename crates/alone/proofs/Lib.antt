@@ -1,4 +1,3 @@
 pub mod Free
 pub mod Less
 pub mod Resting
-mod Sums

@@ -4,7 +4,7 @@ ghost use Rattle.std.specs.Prelude.{◌≡◌, ◌≤◌, ◌+◌, length, true}
 ghost use Rattle.events.specs.Outputs.{counted};
 ghost use Rattle.driver.specs.Tallies.{StaysTally};
 ghost use Rattle.alone.specs.Parts.{DoesOne, IfOff, IfPartly, StaysFreeThen};
-ghost use Rattle.alone.specs.Received.{received_of};
+ghost use Rattle.driver.specs.Received.{received_of};
 ghost use Rattle.alone.specs.Rests.{HasPassedOver, HasStopped, IsAtRest, IsDone, IsFree, StaysFree};
 
 use board::{Board, Claimed};

@@ -3,3 +3,4 @@ pub mod Graphs
 pub mod Settled
 pub mod Rows
 pub mod Tallying
+pub mod Sums

@@ -7,6 +7,7 @@
 //! | `commit` | commits an event that was computed, or abandons it without memory | what the event sends |
 //! | `settle` | commits an event that was computed elsewhere, or abandons one that was refused there | what the event sends, or why it was abandoned |
 //! | `process` | computes an event by a gate, and settles it | the same |
+//! | `received` | sums the counters of a tally | how many records they say that the vertices took in |
 //! | `law_inputs` | nothing: the inputs that a graph declares are those at which its board is fed | |
 //!
 //! The contract for the layers above:
@@ -20,11 +21,13 @@
 mod claiming;
 mod ended;
 mod inputs;
+mod receiving;
 mod settling;
 mod tally;
 
 pub use claiming::claim;
 pub use ended::Ended;
 pub use inputs::law_inputs;
+pub use receiving::received;
 pub use settling::{commit, compute, process, settle};
 pub use tally::{Counts, Tally};

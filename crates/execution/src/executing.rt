@@ -1,10 +1,10 @@
 //! A run of a whole input.
 
-ghost use Rattle.std.specs.Prelude.{◌≡◌, ◌≤◌, ◌<◌, ℕ, [], IfOk, OnErr, vec_capacity};
+ghost use Rattle.std.specs.Prelude.{◌≡◌, ◌≤◌, ◌<◌, ℕ, [], None, Some, IfOk, OnErr, vec_capacity};
 ghost use Rattle.board.specs.Promises.{CountsPassed, IsDrained};
 ghost use Rattle.board.specs.Shown.{tables};
 ghost use Rattle.driver.specs.Tallies.{IsTally};
-ghost use Rattle.alone.specs.Received.{received_of};
+ghost use Rattle.driver.specs.Received.{received_of};
 ghost use Rattle.execution.specs.Fed.{IsWorkedOff};
 ghost use Rattle.execution.specs.Told.{IsNear, IsTold, Tells, untold};
 ghost use Rattle.execution.specs.declared.watching.Progress.{Progress};
@@ -14,30 +14,35 @@ use crate::readings::is_fed;
 use crate::single::run_single;
 use crate::start::{Finish, Start};
 use crate::task::Task;
-use crate::threads::{try_threads, work_off_all};
+use crate::threads::{try_threads, work_off, work_off_watched};
 use crate::unfinished::Unfinished;
-use crate::watching::{Observer, Watch, Watcher, fill};
-use alone::received;
+use crate::watching::{INTERVAL, Observer, Reader, Watch, Watcher, fill};
 use collector::Epochs;
-use driver::law_inputs;
+use driver::{law_inputs, received};
 use std::alloc::Global;
 use std::io::Write;
 use std::marker::Brand;
 use std::sync::Wait;
 use std::thread::Threads;
 use views::Views;
-use workers::{Engine, Gate, Mark, Naming, Publisher, Seat, finish_counting};
+use workers::{Counters, Engine, Gate, Mark, Naming, Publisher, Seat, finish_counting};
 
-/// A new mark: its publisher, a seat at it, and the place to which the seat returns.
+/// A new mark with a seat at it, its publisher, and the place to which the seat returns.
 #[derive(Drop)]
 struct Fresh {
-    mark: Mark,
+    reader: Reader,
     publisher: Publisher,
-    seat: Seat,
     place: Vec<Seat>,
-    ghost own: { (publisher.table ≡ mark) × (seat.table ≡ mark) },
+    ghost own: { publisher.table ≡ reader.mark },
     ghost none: { publisher.number ≡ 0 },
     ghost empty: { (place.items ≡ []) × (0 < vec_capacity place) },
+}
+
+/// The marks of passed epochs and of received records.
+#[derive(Drop)]
+struct Marks {
+    passed: Fresh,
+    received: Fresh,
 }
 
 /// Makes a mark.
@@ -47,16 +52,42 @@ fn new_mark(alloc: Global) -> Result<Fresh, Unfinished> {
         unreachable!()
     };
     Ok(Fresh {
-        mark,
+        reader: Reader::new(mark, seat),
         publisher,
-        seat,
         place: seats,
     })
 }
 
 /// Runs a new board, under a lock of its own, until nothing is left to do. Ok only if it is drained.
-#[tactic(auto, using(crate::proofs::Tellings::tells_nothing))]
-fn drive<
+fn drive<J: Naming + Send + Sync, V: Views + Send, R: Threads + Wait + Sync, G: Gate + Sync>(
+    rt: &R,
+    alloc: Global,
+    start: Start<V>,
+    publisher: Publisher,
+    task: Task<'_>,
+    gate: &G,
+) -> Result<Finish<V>, Unfinished>
+    requires names { tables start.board.shown ≡ J.names }
+    requires graph { start.board.shown.graph ≡ J.graph }
+    requires first { start.board.shown ≡ J.first }
+    requires mark { publisher.table ≡ J.mark }
+    requires unwatched { J.received ≡ None }
+    requires fresh { publisher.number ≡ 0 }
+    requires begins { IsTally start.board.shown start.board.shown start.tally }
+    ensures graph { IfOk result (λ r. r.report.graph ≡ J.graph) }
+    ensures drained { IfOk result (λ r. IsDrained r.report) }
+    ensures counts { IfOk result (λ r. IsTally J.first r.report r.tally) }
+{
+    let Start { board, tally } = start;
+    let counters = Counters::new(tally);
+    let engine = Engine::<J, V>::counting(alloc, board, publisher, counters)?;
+    let done = work_off(rt, alloc, &engine, task, gate);
+    let (report, tally) = finish_counting(engine, Vec::new(alloc), Vec::new(alloc));
+    finished(Finish { report, tally }, task, done)
+}
+
+/// The same, while one more thread tells the watcher how far the run is.
+fn drive_watched<
     J: Naming + Send + Sync,
     V: Views + Send,
     R: Threads + Wait + Sync,
@@ -66,7 +97,7 @@ fn drive<
     rt: &R,
     alloc: Global,
     start: Start<V>,
-    fresh: Fresh,
+    marks: Marks,
     task: Task<'_>,
     gate: &G,
     watch: &mut Watch<W>,
@@ -74,7 +105,8 @@ fn drive<
     requires names { tables start.board.shown ≡ J.names }
     requires graph { start.board.shown.graph ≡ J.graph }
     requires first { start.board.shown ≡ J.first }
-    requires mark { fresh.mark ≡ J.mark }
+    requires mark { marks.passed.reader.mark ≡ J.mark }
+    requires watched { J.received ≡ Some marks.received.reader.mark }
     requires begins { IsTally start.board.shown start.board.shown start.tally }
     requires untold { watch.old.told ≡ untold }
     ensures graph { IfOk result (λ r. r.report.graph ≡ J.graph) }
@@ -84,24 +116,31 @@ fn drive<
     ensures received { IfOk result (λ r. watch.new.told.received ≤ received_of r.tally) }
     ensures tells { Tells W.contents watch.old.watcher watch.new.watcher watch.old.told watch.new.told }
 {
+    let Marks { passed, received } = marks;
     let Fresh {
-        mark,
-        publisher,
-        seat,
-        mut place,
-    } = fresh;
+        reader: epochs,
+        publisher: epochs_publisher,
+        place: mut epochs_place,
+    } = passed;
+    let Fresh {
+        reader: records,
+        publisher: records_publisher,
+        place: mut records_place,
+    } = received;
     let Start { board, tally } = start;
-    let engine = Engine::<J, V>::counting(alloc, board, publisher, tally)?;
-    let observer = Observer::new(mark, seat, watch.lend());
-    let (observer, done) = work_off_all(rt, alloc, &engine, task, gate, observer);
+    let counters = Counters::watched(tally, records_publisher, INTERVAL);
+    let engine = Engine::<J, V>::counting(alloc, board, epochs_publisher, counters)?;
+    let observer = Observer::new(epochs, records, watch.lend());
+    let (observer, done) = work_off_watched(rt, alloc, &engine, task, gate, observer);
     let Observer {
-        mark: _,
-        seat,
+        passed,
+        received,
         watch: lent,
     } = observer;
     watch.take_back(lent);
-    place.push_reserved(seat);
-    let (report, tally) = finish_counting(engine, place);
+    epochs_place.push_reserved(passed.seat);
+    records_place.push_reserved(received.seat);
+    let (report, tally) = finish_counting(engine, epochs_place, records_place);
     finished(Finish { report, tally }, task, done)
 }
 
@@ -127,7 +166,7 @@ fn finished<V: Views>(
     }
 }
 
-/// As `drive`, for any board. With one worker the caller's thread does all, and there is no lock.
+/// As `drive` or `drive_watched`, for any board. With one worker the caller's thread does all, and there is no lock.
 #[tactic(auto, using(crate::proofs::Tellings::tells_nothing))]
 fn drive_any<V: Views + Send, R: Threads + Wait + Sync, G: Gate + Sync, W: Write + Send + Drop>(
     rt: &R,
@@ -150,8 +189,15 @@ fn drive_any<V: Views + Send, R: Threads + Wait + Sync, G: Gate + Sync, W: Write
         try_threads(rt, task.threads)?;
         return run_single(alloc, start, task, gate, watch);
     }
-    let fresh = new_mark(alloc)?;
-    drive::<Brand, V, R, G, W>(rt, alloc, start, fresh, task, gate, watch)
+    if !watch.is_on() {
+        let (_mark, publisher, _seats) = Mark::new(alloc, 0)?;
+        return drive::<Brand, V, R, G>(rt, alloc, start, publisher, task, gate);
+    }
+    let marks = Marks {
+        passed: new_mark(alloc)?,
+        received: new_mark(alloc)?,
+    };
+    drive_watched::<Brand, V, R, G, W>(rt, alloc, start, marks, task, gate, watch)
 }
 
 /// As `execute`, but the last line isn't ended.
@@ -201,8 +247,8 @@ fn run<V: Views + Send, R: Threads + Wait + Sync, G: Gate + Sync, W: Write + Sen
 ///
 /// Ok only if nothing is left to do, and each input was fed, at each epoch, exactly what was read. A watcher writes how many epochs have passed, as
 /// `passed M` with rising numbers, of which the last is how many have passed at the end; and, as `received N`, how many records the vertices took in,
-/// each time that the counters have risen by 1,048,576: with several workers at the end alone. If its writer fails, nothing else changes. The counters
-/// say what each vertex did at each worker.
+/// each time that the counters have risen by 1,048,576. If its writer fails, nothing else changes. The counters say what each vertex did at each
+/// worker.
 pub fn execute<V: Views + Send, R: Threads + Wait + Sync, G: Gate + Sync, W: Write + Send + Drop>(
     rt: &R,
     alloc: Global,

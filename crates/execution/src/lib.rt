@@ -3,8 +3,8 @@
 //! With one worker the caller's thread feeds an epoch and does its work before the next; there is no lock, and that part returns without the leave to
 //! wait. With more, each worker has a thread of its own. The caller's thread feeds, and sleeps while it is 256 epochs ahead of what has passed. Many
 //! small epochs are fed together. The caller's gate computes each event. A watcher shows how many epochs have passed, and how many records were
-//! received; with several workers one more thread writes to it. The caller makes the board, and so decides by which view of progress the workers go: one for all, or one for each, which may
-//! be late.
+//! received, while the run goes on; with several workers one more thread writes to it. The caller makes the board, and so decides by which view of
+//! progress the workers go: one for all, or one for each, which may be late.
 //!
 //! | Call | What it does | Fails |
 //! |---|---|---|

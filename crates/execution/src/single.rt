@@ -3,16 +3,16 @@
 ghost use Rattle.std.specs.Prelude.{◌≡◌, ◌≤◌, ℕ, IfOk, OnOk};
 ghost use Rattle.board.specs.Promises.{CountsPassed, IsDrained};
 ghost use Rattle.driver.specs.Tallies.{IsTally, Rows, StaysTally};
-ghost use Rattle.alone.specs.Received.{received_of};
+ghost use Rattle.driver.specs.Received.{received_of};
 ghost use Rattle.execution.specs.Told.{Tells, untold};
 
 use crate::start::{Finish, Start};
 use crate::task::Task;
 use crate::unfinished::Unfinished;
 use crate::watching::Watch;
-use alone::{Worked, received, work_off, work_some};
+use alone::{Worked, work_off, work_some};
 use board::Board;
-use driver::Tally;
+use driver::{Tally, received};
 use std::alloc::Global;
 use std::io::Write;
 use views::Views;

@@ -62,7 +62,7 @@ fn start_workers<
 
 /// Starts the workers, feeds the engine, and returns once all threads have ended. However the feeding goes, all inputs are closed at the end, so that
 /// the workers end too.
-fn work_off<J: Naming + Send + Sync, V: Views + Send, R: Threads + Wait + Sync, G: Gate + Sync>(
+pub fn work_off<J: Naming + Send + Sync, V: Views + Send, R: Threads + Wait + Sync, G: Gate + Sync>(
     rt: &R,
     alloc: Global,
     engine: &Engine<J, V>,
@@ -79,9 +79,8 @@ fn work_off<J: Naming + Send + Sync, V: Views + Send, R: Threads + Wait + Sync, 
     })
 }
 
-/// As `work_off`, while one more thread watches, if there is a watcher. Where it can't be started, this one watches at the end. Gives back what watched.
-#[tactic(auto, using(crate::proofs::Tellings::tells_nothing))]
-pub fn work_off_all<
+/// As `work_off`, while one more thread watches. Where it can't be started, this one watches at the end. Gives back what watched.
+pub fn work_off_watched<
     J: Naming + Send + Sync,
     V: Views + Send,
     R: Threads + Wait + Sync,
@@ -95,14 +94,10 @@ pub fn work_off_all<
     gate: &G,
     observer: Observer<W>,
 ) -> (Observer<W>, Result<(), Unfinished>)
-    ensures mark { result.0.mark ≡ observer.mark }
-    ensures received { result.0.watch.told.received ≡ observer.watch.told.received }
+    ensures passed { result.0.passed.mark ≡ observer.passed.mark }
+    ensures received { result.0.received.mark ≡ observer.received.mark }
     ensures tells { Tells W.contents observer.watch.watcher result.0.watch.watcher observer.watch.told result.0.watch.told }
 {
-    if !observer.is_on() {
-        let done = work_off(rt, alloc, engine, task, gate);
-        return (observer, done);
-    }
     join(
         rt,
         move || keep_watch(rt, engine, observer),

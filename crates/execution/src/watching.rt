@@ -15,7 +15,7 @@ use views::Views;
 use workers::{Engine, Mark, Naming, Seat};
 
 /// The fewest records between two notes of what was received.
-const INTERVAL: u64 = 1_048_576;
+pub const INTERVAL: u64 = 1_048_576;
 
 /// How a watcher writes how far a run is.
 #[derive(Clone, Copy, Debug, PartialEq, Eq)]
@@ -239,53 +239,87 @@ pub fn fill<T>(place: &mut Option<T>, value: Option<T>)
     let None = before else { unreachable!() };
 }
 
-/// A mark with a seat at it, and the watcher at work that is told what the seat reads: no more than that.
+/// A mark with a seat at it.
 #[derive(Drop)]
-pub struct Observer<W> {
+pub struct Reader {
     pub mark: Mark,
     pub seat: Seat,
-    pub watch: Watch<W>,
     ghost of: { seat.table ≡ mark },
-    ghost read: { watch.told.passed ≤ seat.number },
+}
+
+impl Reader {
+    pub fn new(mark: Mark, seat: Seat) -> Reader
+        requires { seat.table ≡ mark }
+        ensures { (result.mark ≡ mark) × (result.seat ≡ seat) }
+    {
+        Reader { mark, seat }
+    }
+
+    /// Reads the mark.
+    fn read(&mut self) -> u64
+        ensures mark { self.new.mark ≡ self.old.mark }
+        ensures read { self.new.seat.number ≡ result }
+        ensures rises { self.old.seat.number ≤ result }
+    {
+        self.mark.observe(&mut self.seat)
+    }
+}
+
+/// The marks of passed epochs and of received records, and the watcher at work that is told what the seats there read: no more than that.
+#[derive(Drop)]
+pub struct Observer<W> {
+    pub passed: Reader,
+    pub received: Reader,
+    pub watch: Watch<W>,
+    ghost passed_read: { watch.told.passed ≤ passed.seat.number },
+    ghost received_read: { watch.told.received ≤ received.seat.number },
 }
 
 impl<W: Write> Observer<W> {
-    pub fn new(mark: Mark, seat: Seat, watch: Watch<W>) -> Observer<W>
-        requires of { seat.table ≡ mark }
-        requires read { watch.told.passed ≤ seat.number }
-        ensures { (result.mark ≡ mark) × (result.watch ≡ watch) }
+    pub fn new(passed: Reader, received: Reader, watch: Watch<W>) -> Observer<W>
+        requires passed { watch.told.passed ≤ passed.seat.number }
+        requires received { watch.told.received ≤ received.seat.number }
+        ensures { (result.passed ≡ passed) × (result.received ≡ received) × (result.watch ≡ watch) }
     {
-        Observer { mark, seat, watch }
-    }
-
-    /// Whether there is a watcher.
-    pub fn is_on(&self) -> bool {
-        self.watch.is_on()
+        Observer {
+            passed,
+            received,
+            watch,
+        }
     }
 }
 
-/// Reports whenever more epochs have passed than were told, and sleeps in between. Ends when no more can pass, or the writer has failed.
+/// Reports whenever more epochs have passed, or more records were received by an interval, than were told, and sleeps in between. Ends when there will be
+/// no more, or the writer has failed.
 pub fn keep_watch<J: Naming, V: Views, R: Wait, W: Write>(
     rt: &R,
     engine: &Engine<J, V>,
     observer: Observer<W>,
 ) -> Observer<W>
-    ensures mark { result.mark ≡ observer.mark }
-    ensures received { result.watch.told.received ≡ observer.watch.told.received }
+    ensures passed { result.passed.mark ≡ observer.passed.mark }
+    ensures received { result.received.mark ≡ observer.received.mark }
     ensures tells { Tells W.contents observer.watch.watcher result.watch.watcher observer.watch.told result.watch.told }
 {
     let Observer {
-        mark,
-        mut seat,
+        mut passed,
+        mut received,
         mut watch,
     } = observer;
+    let mut known = Progress::none();
     for _turn in rt.forever() {
-        engine.wait_for(rt, watch.told.passed.saturating_add(1));
-        let passed = mark.observe(&mut seat);
-        if passed <= watch.told.passed || watch.is_silent() {
+        engine.wait_for_news(rt, known.passed.saturating_add(1), known.received);
+        let epochs = passed.read();
+        let records = received.read();
+        let now = Progress {
+            passed: epochs,
+            received: records,
+        };
+        if now == known || watch.is_silent() {
             break;
         }
-        watch.tell_rise(passed);
+        watch.tell_received(records);
+        watch.tell_rise(epochs);
+        known = now;
     }
-    Observer::new(mark, seat, watch)
+    Observer::new(passed, received, watch)
 }

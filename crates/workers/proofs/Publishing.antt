@@ -31,7 +31,7 @@ publishes old b n new prompt value seen number = record {
 
 -- nothing was published before
 pub after_opening : (names : List TableId) (graph : GraphValue) (old : ℕ) (b : BoardShown) (new : ℕ) → tables b.shown ≡ names → b.shown.graph ≡ graph → old ≡ 0
-    → Publishes old b new → IsHeld names graph (record { board = b; published = new })
+    → Publishes old b new → IsHeld names graph b new
 after_opening names graph old b new named is_graph fresh p = record {
   named = named;
   graph = is_graph;
@@ -39,14 +39,14 @@ after_opening names graph old b new named is_graph fresh p = record {
   prompt = p.prompt;
 }
 
-module _ (names : List TableId) (graph : GraphValue) (b : BoardShown) (old : ℕ) (held : IsHeld names graph (record { board = b; published = old })) (t : BoardShown) (new : ℕ) where
+module _ (names : List TableId) (graph : GraphValue) (b : BoardShown) (old : ℕ) (held : IsHeld names graph b old) (t : BoardShown) (new : ℕ) where
   -- the number that was published before isn't above the new one
   published : old ≤ t.passed → Publishes old t new → CountsPassed t.shown new
   published l p = let same : t.passed ≡ new = (let number = p.number in omega (arith, number, l)) in subst (CountsPassed t.shown) same p.counts
 
   -- after a step
   pub after_step : (stays : (step : Step) (next : Shown) → Goes b.shown step next → (m n : ℕ) → CountsPassed b.shown m → CountsPassed next n → m ≤ n)
-      (step : Step) → Goes b.shown step t.shown → tables t.shown ≡ tables b.shown → Publishes old t new → IsHeld names graph (record { board = t; published = new })
+      (step : Step) → Goes b.shown step t.shown → tables t.shown ≡ tables b.shown → Publishes old t new → IsHeld names graph t new
   after_step stays step goes same p = record {
     named = same ∙ held.named;
     graph = goes.graph ∙ held.graph;
@@ -57,12 +57,12 @@ module _ (names : List TableId) (graph : GraphValue) (b : BoardShown) (old : ℕ
   -- after a step and then a catch-up of the first worker
   pub after_publishing : (stays : (step : Step) (next : Shown) → Goes b.shown step next → (m n : ℕ) → CountsPassed b.shown m → CountsPassed next n → m ≤ n)
       (step : Step) (u : BoardShown) → Goes b.shown step u.shown → tables u.shown ≡ tables b.shown → t.shown ≡ u.shown → Publishes old t new
-      → IsHeld names graph (record { board = t; published = new })
+      → IsHeld names graph t new
   after_publishing stays step u goes same is p = after_step stays step (subst (Goes b.shown step) (sym is) goes) (ap tables is ∙ same) p
 
   -- after a call that changed nothing, except that waiting batches may have been applied
   pub after_nothing : (one : (m n : ℕ) → CountsPassed b.shown m → CountsPassed b.shown n → m ≡ n)
-      → t.shown ≡ b.shown → Publishes old t new → IsHeld names graph (record { board = t; published = new })
+      → t.shown ≡ b.shown → Publishes old t new → IsHeld names graph t new
   after_nothing one is p =
       let there : old ≡ t.passed = one old t.passed held.published (subst (λ (z : Shown). CountsPassed z t.passed) is p.counts) in
       record {
@@ -75,7 +75,7 @@ module _ (names : List TableId) (graph : GraphValue) (b : BoardShown) (old : ℕ
   pub after_claim : (one : (m n : ℕ) → CountsPassed b.shown m → CountsPassed b.shown n → m ≡ n)
       (stays : (step : Step) (next : Shown) → Goes b.shown step next → (m n : ℕ) → CountsPassed b.shown m → CountsPassed next n → m ≤ n)
       (worker : ℕ) (c : Claimed) → Claims b.shown t.shown worker c → tables t.shown ≡ tables b.shown → Publishes old t new
-      → IsHeld names graph (record { board = t; published = new })
+      → IsHeld names graph t new
   after_claim one stays worker Stopped h same p = after_nothing one h.1 p
   after_claim one stays worker Busy h same p = after_nothing one h.2 p
   after_claim one stays worker (Work x) h same p = after_step stays h.0.taken h.0.goes same p
@@ -83,10 +83,10 @@ module _ (names : List TableId) (graph : GraphValue) (b : BoardShown) (old : ℕ
   after_claim one stays worker Idle h same p = after_nothing one h.5 p
 
 -- after messages were merged and the first worker caught up; what was published is what the board knew before
-pub after_gathering : (names : List TableId) (graph : GraphValue) (b : BoardShown) (old : ℕ) → IsHeld names graph (record { board = b; published = old })
+pub after_gathering : (names : List TableId) (graph : GraphValue) (b : BoardShown) (old : ℕ) → IsHeld names graph b old
     → (one : (m n : ℕ) → CountsPassed b.shown m → CountsPassed b.shown n → m ≡ n) (known : ℕ) → known ≡ b.passed → (IsUpToDate b 0 → CountsPassed b.shown known)
     → (u t : BoardShown) (new : ℕ) → tables u.shown ≡ tables b.shown → u.shown.graph ≡ b.shown.graph → b.passed ≤ u.passed → t.shown ≡ u.shown → u.passed ≤ t.passed
-    → Publishes old t new → IsHeld names graph (record { board = t; published = new })
+    → Publishes old t new → IsHeld names graph t new
 after_gathering names graph b old held one known value seen u t new same is_graph rises is more p =
     let there : old ≡ known = one old known held.published (seen held.prompt) in
     let number : t.passed ≡ new = (let n = p.number in omega (arith, n, there, value, rises, more)) in
@@ -98,8 +98,8 @@ after_gathering names graph b old held one known value seen u t new same is_grap
     }
 
 -- after what waits for a worker was applied
-pub after_catching_up : (names : List TableId) (graph : GraphValue) (b : BoardShown) (n : ℕ) → IsHeld names graph (record { board = b; published = n })
-    → (worker : ℕ) (t : BoardShown) → t.shown ≡ b.shown → Applies worker b t → IsHeld names graph (record { board = t; published = n })
+pub after_catching_up : (names : List TableId) (graph : GraphValue) (b : BoardShown) (n : ℕ) → IsHeld names graph b n
+    → (worker : ℕ) (t : BoardShown) → t.shown ≡ b.shown → Applies worker b t → IsHeld names graph t n
 after_catching_up names graph b n held worker t is applies = record {
   named = ap tables is ∙ held.named;
   graph = ap (λ (z : Shown). z.graph) is ∙ held.graph;
@@ -108,9 +108,9 @@ after_catching_up names graph b n held worker t is applies = record {
 }
 
 -- after a refusal
-pub after_refusal : (names : List TableId) (graph : GraphValue) (b : BoardShown) (n : ℕ) → IsHeld names graph (record { board = b; published = n })
-    → (t : BoardShown) → t ≡ b → IsHeld names graph (record { board = t; published = n })
-after_refusal names graph b n held t is = subst (λ (z : BoardShown). IsHeld names graph (record { board = z; published = n })) (sym is) held
+pub after_refusal : (names : List TableId) (graph : GraphValue) (b : BoardShown) (n : ℕ) → IsHeld names graph b n
+    → (t : BoardShown) → t ≡ b → IsHeld names graph t n
+after_refusal names graph b n held t is = subst (λ (z : BoardShown). IsHeld names graph z n) (sym is) held
 
 -- the answer to a worker for which nothing waits is true, and was true before
 pub choice : (b t : BoardShown) (worker : ℕ) (answer : Bool) → t.shown ≡ b.shown → IsUpToDate t worker

@@ -6,17 +6,18 @@ use Rattle.board.specs.Lateness.{BoardShown, IsUpToDate}
 use Rattle.board.specs.Promises.{CountsPassed}
 use Rattle.board.specs.Shown.{tables}
 
--- the board, and the number that was published last
+-- the board, and the numbers that were published last, of passed epochs and of received records
 pub record HeldShown : Type 0 where
   pub board : BoardShown
   pub published : ℕ
+  pub received : ℕ
 
 -- The board has these tables and this graph, what was published is the number of passed epochs, and nothing waits for the first worker.
-pub record IsHeld (ts : List TableId) (g : GraphValue) (h : HeldShown) : Type 0 where
-  pub named : tables h.board.shown ≡ ts
-  pub graph : h.board.shown.graph ≡ g
-  pub published : CountsPassed h.board.shown h.published
-  pub prompt : IsUpToDate h.board 0
+pub record IsHeld (ts : List TableId) (g : GraphValue) (b : BoardShown) (n : ℕ) : Type 0 where
+  pub named : tables b.shown ≡ ts
+  pub graph : b.shown.graph ≡ g
+  pub published : CountsPassed b.shown n
+  pub prompt : IsUpToDate b 0
 
 -- nothing waits for the first worker, and the number of passed epochs was published after an older number
 pub record Publishes (old : ℕ) (b : BoardShown) (new : ℕ) : Type 0 where

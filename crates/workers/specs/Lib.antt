@@ -6,3 +6,5 @@ pub mod Plans
 pub mod ThreadSets
 pub mod Sleeping
 pub mod Wakeups
+pub mod Counters
+pub mod Waiting

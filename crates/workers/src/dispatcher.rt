@@ -28,20 +28,8 @@ use rows::WorkFault;
 use std::collections::VecDeque;
 use views::Views;
 
-/// Nobody waits for epochs to pass.
-const NONE: u64 = u64::MAX;
-
-/// The threads that a call wakes once the lock is released.
-#[derive(Clone, Copy)]
-pub struct Wakeups {
-    /// The threads that work.
-    pub threads: ThreadSet,
-    /// Whether those that wait for epochs to pass are woken too.
-    pub feeders: bool,
-}
-
-/// A board with its publisher; the threads; what has come to each worker, and how far each is; the worker whose turn it is to get an event, and the
-/// thread that is asked next whether it has something to do; and the least number of epochs that a thread waits for.
+/// A board with its publisher; the threads; what has come to each worker, and how far each is; the worker whose turn it is to get an event; and the
+/// thread that is asked next whether it has something to do.
 #[derive(Drop)]
 pub struct Dispatcher<J: Naming, V: Views> {
     pub held: Held<J, V>,
@@ -50,7 +38,6 @@ pub struct Dispatcher<J: Naming, V: Views> {
     pace: Pace,
     turn: u32,
     asked: u32,
-    awaited: u64,
 }
 
 impl<J: Naming, V: Views> Dispatcher<J, V> {
@@ -66,7 +53,6 @@ impl<J: Naming, V: Views> Dispatcher<J, V> {
             pace: Pace::new(),
             turn: 0,
             asked: 0,
-            awaited: NONE,
         }
     }
 
@@ -203,18 +189,6 @@ impl<J: Naming, V: Views> Dispatcher<J, V> {
         }
     }
 
-    /// Whether `count` epochs have passed, or no further ones will. If not, notes that a thread waits for that many.
-    pub fn has_passed(&mut self, count: u64) -> bool
-        ensures threads { self.new.threads ≡ self.old.threads }
-        ensures held { self.new.held ≡ self.old.held }
-    {
-        if count <= self.held.passed_count() || self.is_at_end() {
-            return true;
-        }
-        self.awaited = self.awaited.min(count);
-        false
-    }
-
     /// The board with its publisher.
     pub fn into_held(self) -> Held<J, V> {
         let Dispatcher {
@@ -224,30 +198,16 @@ impl<J: Naming, V: Views> Dispatcher<J, V> {
             pace: _,
             turn: _,
             asked: _,
-            awaited: _,
         } = self;
         held
     }
 
-    /// Wakes the threads that are to be woken now. `eager` says that the caller may make no further call.
-    pub fn wake(&mut self, eager: bool) -> Wakeups
-        ensures wakes { Wakes self.old.threads self.new.threads result.threads }
-        ensures lost { LosesNoWakeup self.new.threads self.new.held.board.shown }
-    {
-        let at_end = self.is_at_end();
-        let threads = self.wake_threads(at_end, eager);
-        let feeders = self.awaited != NONE && (at_end || self.awaited <= self.held.passed_count());
-        if feeders {
-            self.awaited = NONE;
-        }
-        Wakeups { threads, feeders }
-    }
-
-    /// Wakes threads, and gives them.
-    fn wake_threads(&mut self, at_end: bool, eager: bool) -> ThreadSet
+    /// Wakes the threads that are to be woken now, and gives them. `eager` says that the caller may make no further call.
+    pub fn wake(&mut self, at_end: bool, eager: bool) -> ThreadSet
         requires { MatchBool at_end (IsAtEnd self.old.held.board.shown) (IsAtEnd self.old.held.board.shown → ⊥) }
         ensures wakes { Wakes self.old.threads self.new.threads result }
         ensures lost { LosesNoWakeup self.new.threads self.new.held.board.shown }
+        ensures shown { self.new.held.board.shown ≡ self.old.held.board.shown }
     {
         if !self.threads.has_sleepers() {
             return self.threads.wake(ThreadSet::empty());
@@ -291,7 +251,7 @@ impl<J: Naming, V: Views> Dispatcher<J, V> {
     }
 
     /// Whether the board is stopped, or nothing is left to do.
-    fn is_at_end(&self) -> bool
+    pub fn is_at_end(&self) -> bool
         ensures { MatchBool result (IsAtEnd self.now.held.board.shown) (IsAtEnd self.now.held.board.shown → ⊥) }
     {
         self.held.is_stopped() || self.held.is_drained()

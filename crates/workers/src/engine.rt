@@ -1,17 +1,18 @@
 //! A board under a lock, for any number of threads.
 
-ghost use Rattle.std.specs.Prelude.{◌≡◌, ◌≤◌, ◌<◌, true, IfOk};
+ghost use Rattle.std.specs.Prelude.{◌≡◌, ◌≤◌, ◌<◌, None, true, IfOk};
 ghost use Rattle.board.specs.Looks.{ShowsEachOutput, ShowsPassed};
 ghost use Rattle.board.specs.Shown.{tables};
 ghost use Rattle.driver.specs.Ends.{event_of};
 ghost use Rattle.driver.specs.Tallies.{IsTally};
 ghost use Rattle.workers.specs.Names.{GivesNamed, IsNamed};
 
-use crate::dispatcher::Wakeups;
+use crate::counters::Counters;
 use crate::held::{Held, Naming};
 use crate::mark::{Publisher, Seat};
 use crate::plan::{Feed, Plan};
-use crate::shared::Shared;
+use crate::shared::{Shared, Wakeups};
+use crate::waiting::News;
 use board::{Board, Claimed, Look, StepRefusal};
 use driver::Tally;
 use events::{Done, Work};
@@ -22,7 +23,7 @@ use std::collections::VecDeque;
 use std::sync::{Condvar, Mutex, Wait};
 use views::Views;
 
-/// A board under a lock, with a bell for each worker and one for the threads that wait for epochs to pass.
+/// A board under a lock, with a bell for each worker and one for the threads that wait for progress.
 #[derive(Drop)]
 pub struct Engine<J: Naming, V: Views> {
     shared: Mutex<Shared<J, V>>,
@@ -41,9 +42,11 @@ impl<J: Naming, V: Views> Engine<J, V> {
         requires names { tables board.shown ≡ J.names }
         requires graph { board.shown.graph ≡ J.graph }
         requires mark { publisher.table ≡ J.mark }
+        requires unwatched { J.received ≡ None }
         requires fresh { publisher.number ≡ 0 }
     {
-        Engine::counting(alloc, board, publisher, Tally::none(alloc))
+        let counters = Counters::new(Tally::none(alloc));
+        Engine::counting(alloc, board, publisher, counters)
     }
 
     /// The same with counters, which count each commit under the lock.
@@ -51,18 +54,18 @@ impl<J: Naming, V: Views> Engine<J, V> {
         alloc: Global,
         board: Board<V>,
         publisher: Publisher,
-        tally: Tally,
+        counters: Counters<J>,
     ) -> Result<Engine<J, V>, NoMemory>
         requires names { tables board.shown ≡ J.names }
         requires graph { board.shown.graph ≡ J.graph }
         requires mark { publisher.table ≡ J.mark }
         requires fresh { publisher.number ≡ 0 }
-        requires counts { IsTally J.first board.shown tally }
+        requires counts { IsTally J.first board.shown counters.tally }
     {
         let plan = Plan::new(board.share_wiring()?);
         let bells = new_bells(alloc, board.workers())?;
         Ok(Engine {
-            shared: Mutex::new(Shared::new(Held::new(board, publisher, tally))),
+            shared: Mutex::new(Shared::new(Held::new(board, publisher, counters))),
             plan,
             bells,
             passing: Condvar::new(),
@@ -129,9 +132,18 @@ impl<J: Naming, V: Views> Engine<J, V> {
 
     /// Sleeps until `count` epochs have passed, or the board is stopped, or nothing is left to do.
     pub fn wait_for<R: Wait>(&self, rt: &R, count: u64) {
+        self.wait_for_news(rt, count, u64::MAX);
+    }
+
+    /// The same, but returns also once it was published that more than `received` records were received.
+    pub fn wait_for_news<R: Wait>(&self, rt: &R, count: u64, received: u64) {
+        let wanted = News {
+            passed: count,
+            received,
+        };
         let mut shared = self.shared.lock(rt);
         for _turn in rt.forever() {
-            if shared.has_passed(count) {
+            if shared.has_come(wanted) {
                 return;
             }
             shared = self.passing.wait(rt, shared);
@@ -203,7 +215,7 @@ impl<J: Naming, V: Views> Engine<J, V> {
                 thread = thread.saturating_add(1);
             }
         }
-        if wakeups.feeders {
+        if wakeups.waiting {
             self.passing.notify_all();
         }
     }

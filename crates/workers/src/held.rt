@@ -1,6 +1,6 @@
-//! What the lock protects: the board, and the publisher of the number of passed epochs.
+//! What the lock protects: the board with its counters, and the publisher of the number of passed epochs.
 
-ghost use Rattle.std.specs.Prelude.{◌≡◌, ◌<◌, ◌≤◌, ℕ, true, IfOk, MatchBool, OnErr, OnOk, length, max};
+ghost use Rattle.std.specs.Prelude.{◌≡◌, ◌<◌, ◌≤◌, ℕ, true, IfOk, MatchBool, OnErr, OnOk, Some, length, max};
 ghost use Rattle.machine.specs.Step.{Step};
 ghost use Rattle.board.specs.Answers.{AnswersOnly, AnswersOr, Claims, Gathers, HasChoice, HasNoChoice, IfNothing};
 ghost use Rattle.board.specs.Answers.{feed_refusal, input_refusal, seal_refusal};
@@ -10,10 +10,12 @@ ghost use Rattle.board.specs.Looks.{IsLookAt, ShowsEachOutput, ShowsPassed};
 ghost use Rattle.board.specs.Promises.{CountsPassed, HasPassedAtAll, IsDrained};
 ghost use Rattle.board.specs.Shown.{tables};
 ghost use Rattle.driver.specs.Ends.{Ends, IsFaultOf, event_of};
+ghost use Rattle.driver.specs.Received.{received_of};
 ghost use Rattle.driver.specs.Tallies.{IsTally};
 ghost use Rattle.workers.specs.Held.{Publishes};
 ghost use Rattle.workers.specs.Names.{GivesNamed, IsNamed};
 
+use crate::counters::Counters;
 use crate::mark::{Publisher, Seat};
 use board::{Board, Claimed, Look, Sent, StepRefusal, gather};
 use driver::{Tally, settle};
@@ -25,10 +27,11 @@ use std::alloc::Global;
 use std::marker::{Brand, Model, PhantomData};
 use views::Views;
 
-/// Names a board by the tables by which its events are known, by the graph that it runs, by the mark that counts its passed epochs, and by what it showed
-/// when its counters were 0. It has no values; `Brand` stands for the board that a call is about.
+/// Names a board by the tables by which its events are known, by the graph that it runs, by the mark that counts its passed epochs, by the one that counts
+/// the records that its vertices received, if any does, and by what it showed when its counters were 0. It has no values; `Brand` stands for the board
+/// that a call is about.
 pub trait Naming {
-    ghost use Rattle.std.specs.Prelude.{List};
+    ghost use Rattle.std.specs.Prelude.{List, Option};
     ghost use Rattle.atomic_table.specs.Seated.{TableId};
     ghost use Rattle.graph.specs.Shown.{GraphValue};
     ghost use Rattle.board.specs.Shown.{Shown};
@@ -39,17 +42,21 @@ pub trait Naming {
 
     ghost mark: { TableId };
 
+    ghost received: { Option TableId };
+
     ghost first: { Shown };
 }
 
 impl Naming for Brand {
-    ghost use Rattle.std.specs.Prelude.{[], false};
+    ghost use Rattle.std.specs.Prelude.{[], None, false};
 
     ghost names = { [] };
 
     ghost graph = { record { vertices = []; inputs = []; outputs = []; arities = [] } };
 
     ghost mark = { record { words = 0; slots = 0; views_name = 0; atom = 0; block = 0; offset = 0; slot_names = [] } };
+
+    ghost received = { None };
 
     ghost first = { record { graph = record { vertices = []; inputs = []; outputs = []; arities = [] }; inputs = []; sides = []; emitted = []; stopped = false } };
 }
@@ -62,7 +69,7 @@ const EVENTS: u32 = 1024;
 #[derive(Drop)]
 pub struct Held<J: Naming, V: Views> {
     board: Board<V>,
-    tally: Tally,
+    counters: Counters<J>,
     publisher: Publisher,
     events: u32,
     of: PhantomData<J>,
@@ -77,6 +84,7 @@ impl<J: Naming, V: Views> Model for Held<J, V> {
     ghost use Rattle.expr_tree.specs.contracts.scalar.Scalar as scalar;
     ghost use Rattle.expr_tree.specs.contracts.condition.Cond as condition;
     ghost use Rattle.driver.specs.Tallies.{IsTally};
+    ghost use Rattle.workers.specs.Counters.{published_by};
     ghost use Rattle.workers.specs.Held.{HeldShown, IsHeld};
 
     ghost Value = { HeldShown };
@@ -88,20 +96,20 @@ impl<J: Naming, V: Views> Model for Held<J, V> {
       (condition.the_row heap.the_row allocates.ghosts).coded,
     ) };
 
-    ghost view = { λ h. record { board = h.board; published = h.publisher.number } };
+    ghost view = { λ h. record { board = h.board; published = h.publisher.number; received = published_by h.counters.receipts } };
 
-    ghost invariant = { λ h. IsHeld J.names J.graph (record { board = h.board; published = h.publisher.number }) × (h.publisher.table ≡ J.mark)
-        × IsTally J.first h.board.shown h.tally };
+    ghost invariant = { λ h. IsHeld J.names J.graph h.board h.publisher.number × (h.publisher.table ≡ J.mark)
+        × IsTally J.first h.board.shown h.counters.tally };
 }
 
 impl<J: Naming, V: Views> Held<J, V> {
     /// Publishes the epochs that have passed already. The counters go on counting commits.
-    pub fn new(board: Board<V>, publisher: Publisher, tally: Tally) -> Held<J, V>
+    pub fn new(board: Board<V>, publisher: Publisher, counters: Counters<J>) -> Held<J, V>
         requires names { tables board.shown ≡ J.names }
         requires graph { board.shown.graph ≡ J.graph }
         requires mark { publisher.table ≡ J.mark }
         requires fresh { publisher.number ≡ 0 }
-        requires counts { IsTally J.first board.shown tally }
+        requires counts { IsTally J.first board.shown counters.tally }
         ensures shown { result.board.shown ≡ board.shown }
         ensures applies { Applies 0 board result.board }
     {
@@ -110,7 +118,7 @@ impl<J: Naming, V: Views> Held<J, V> {
         publish(&mut board, &mut publisher);
         Held {
             board,
-            tally,
+            counters,
             publisher,
             events: 0,
             of: PhantomData,
@@ -212,7 +220,7 @@ impl<J: Naming, V: Views> Held<J, V> {
         self.board.law_stays();
         match settle(&mut self.board, computed) {
             Ok(sent) => {
-                self.tally.count(sent);
+                self.counters.count(sent);
                 publish(&mut self.board, &mut self.publisher);
                 self.count_event();
                 Ok(sent)
@@ -251,9 +259,18 @@ impl<J: Naming, V: Views> Held<J, V> {
 
     /// The number of epochs that have passed.
     pub fn passed_count(&self) -> u64
-        ensures { CountsPassed self.now.board.shown result }
+        ensures counts { CountsPassed self.now.board.shown result }
+        ensures published { result ≡ self.now.published }
     {
+        self.board.law_count();
         self.board.passed_count()
+    }
+
+    /// The number of received records that was published last.
+    pub fn received_count(&self) -> u64
+        ensures { result ≡ self.now.received }
+    {
+        self.counters.published()
     }
 
     /// Whether a claim of the worker would hand out an event. Applies all that waits for the worker first.
@@ -302,6 +319,17 @@ impl<J: Naming, V: Views> Held<J, V> {
         self.publisher.show(seat)
     }
 
+    /// Has an observer's seat read how many records were received, as far as published.
+    pub fn observe_received(&mut self, seat: &mut Seat) -> u64
+        requires { J.received ≡ Some seat.old.table }
+        ensures held { self.new ≡ self.old }
+        ensures table { seat.new.table ≡ seat.old.table }
+        ensures read { (result ≡ self.new.received) × (seat.new.number ≡ result) }
+        ensures rises { seat.old.number ≤ result }
+    {
+        self.counters.show(seat)
+    }
+
     /// Calls `Board::look`. Worker 0's view is up to date, so the look shows every epoch that has passed as passed.
     pub fn look(&self, alloc: Global, epoch: u32) -> Result<Look, NoMemory>
         ensures look { IfOk result (λ l. IsLookAt self.now.board epoch l) }
@@ -322,15 +350,16 @@ impl<J: Naming, V: Views> Held<J, V> {
         ensures passed { CountsPassed result.0.shown self.published }
         ensures prompt { IsUpToDate result.0 0 }
         ensures counts { IsTally J.first result.0.shown result.1 }
+        ensures received { self.received ≤ received_of result.1 }
     {
         let Held {
             board,
-            tally,
+            counters,
             publisher: _,
             events: _,
             of: _,
         } = self;
-        (board, tally)
+        (board, counters.into_tally())
     }
 }
 

@@ -12,7 +12,7 @@ use std::sync::Arc;
 
 type Word = Table<(), View, (), MarkRule, Global>;
 
-/// The number of epochs known to have passed, 0 at first.
+/// A number that rises from 0: of the epochs known to have passed, or of the records known to have been received.
 #[derive(Drop)]
 pub struct Mark {
     table: Arc<Word, Global>,
@@ -96,7 +96,7 @@ impl Mark {
         Ok((Mark { table }, publisher, seats))
     }
 
-    /// The number of epochs that have passed, as far as published. One load; the result is never below what the seat read before.
+    /// The number, as far as published. One load; the result is never below what the seat read before.
     pub fn observe(&self, seat: &mut Seat) -> u64
         requires { seat.old.table ≡ self.now }
         ensures table { seat.new.table ≡ seat.old.table }
@@ -109,6 +109,13 @@ impl Mark {
 }
 
 impl Publisher {
+    /// The number that was published last.
+    pub fn number(&self) -> u64
+        ensures { result ≡ self.now.number }
+    {
+        self.published
+    }
+
     /// Raises the mark to a number by one fetch_max; writes nothing if the mark is already there.
     pub fn publish(&mut self, count: u64)
         ensures table { self.new.table ≡ self.old.table }

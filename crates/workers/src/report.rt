@@ -1,11 +1,12 @@
 //! The result of a run.
 
-ghost use Rattle.std.specs.Prelude.{◌≡◌, ◌≤◌, ◌<◌, ℕ, [], All, MatchBool, length, slice_index_or};
+ghost use Rattle.std.specs.Prelude.{◌≡◌, ◌≤◌, ◌<◌, ℕ, [], All, MatchBool, Some, length, slice_index_or};
 ghost use Rattle.graph.specs.Shown.{shown_graph};
 ghost use Rattle.semantics.specs.Graph.{input_count, output_number, output_numbers};
 ghost use Rattle.semantics.specs.Query.{Program};
 ghost use Rattle.board.specs.Promises.{CountsPassed, HasPassed, IsDrained, IsOutputPlace, KeepsPromise, RunsProgram};
 ghost use Rattle.board.specs.Shown.{emitted_by, input_at};
+ghost use Rattle.driver.specs.Received.{received_of};
 ghost use Rattle.driver.specs.Tallies.{IsTally};
 
 use crate::engine::Engine;
@@ -136,22 +137,38 @@ pub fn finish<J: Naming, V: Views>(engine: Engine<J, V>, seats: Vec<Seat>) -> Re
     ensures graph { result.graph ≡ J.graph }
     ensures seats { (n : ℕ) → CountsPassed result n → All (λ s. s.number ≤ n) seats.items }
 {
-    let (report, _tally) = finish_counting(engine, seats);
+    let mut held = engine.into_held();
+    observe_all(&mut held, seats);
+    let (report, _tally) = report_on(held);
     report
 }
 
-/// The same, with the counters, which say what was done since they were 0.
+/// The same, with the counters, which say what was done since they were 0. None of the seats at the mark of received records has read more than they say.
 pub fn finish_counting<J: Naming, V: Views>(
     engine: Engine<J, V>,
     seats: Vec<Seat>,
+    received: Vec<Seat>,
 ) -> (Report<V>, Tally)
-    requires { All (λ s. s.table ≡ J.mark) seats.items }
+    requires seats { All (λ s. s.table ≡ J.mark) seats.items }
+    requires received { All (λ s. J.received ≡ Some s.table) received.items }
     ensures graph { result.0.graph ≡ J.graph }
     ensures seats { (n : ℕ) → CountsPassed result.0 n → All (λ s. s.number ≤ n) seats.items }
+    ensures received { All (λ s. s.number ≤ received_of result.1) received.items }
     ensures counts { IsTally J.first result.0 result.1 }
 {
     let mut held = engine.into_held();
     observe_all(&mut held, seats);
+    observe_all_received(&mut held, received);
+    report_on(held)
+}
+
+/// The report and the counters. What was published is at most what they say.
+fn report_on<J: Naming, V: Views>(held: Held<J, V>) -> (Report<V>, Tally)
+    ensures graph { result.0.graph ≡ J.graph }
+    ensures published { (n : ℕ) → CountsPassed result.0 n → held.published ≡ n }
+    ensures received { held.received ≤ received_of result.1 }
+    ensures counts { IsTally J.first result.0 result.1 }
+{
     let (board, tally) = held.into_parts();
     board.law_count();
     (Report { board }, tally)
@@ -175,4 +192,24 @@ fn observe<J: Naming, V: Views>(held: &mut Held<J, V>, mut seat: Seat)
     ensures seat { seat.number ≤ held.old.published }
 {
     let _passed = held.observe(&mut seat);
+}
+
+/// Has each seat at the mark of received records read it once more.
+fn observe_all_received<J: Naming, V: Views>(held: &mut Held<J, V>, seats: Vec<Seat>)
+    requires { All (λ s. J.received ≡ Some s.table) seats.items }
+    ensures held { held.new ≡ held.old }
+    ensures seats { All (λ s. s.number ≤ held.old.received) seats.items }
+{
+    for seat in seats {
+        observe_received(held, seat);
+    }
+}
+
+/// Has the seat at the mark of received records read it once more.
+fn observe_received<J: Naming, V: Views>(held: &mut Held<J, V>, mut seat: Seat)
+    requires { J.received ≡ Some seat.table }
+    ensures held { held.new ≡ held.old }
+    ensures seat { seat.number ≤ held.old.received }
+{
+    let _received = held.observe_received(&mut seat);
 }

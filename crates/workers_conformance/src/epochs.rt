@@ -1,6 +1,6 @@
 //! Epochs that two workers pass while they are fed, as an observer reads them.
 
-ghost use Rattle.std.specs.Prelude.{◌≡◌};
+ghost use Rattle.std.specs.Prelude.{◌≡◌, None};
 ghost use Rattle.board.specs.Shown.{tables};
 
 use crate::boards::{batch_of, copying, copying_with_local_views, count_of, emitted};
@@ -79,6 +79,7 @@ fn four_epochs<J: Naming + Send + Sync, V: Views + Send, R: Threads + Wait + Syn
     requires names { tables board.shown ≡ J.names }
     requires graph { board.shown.graph ≡ J.graph }
     requires mark { publisher.table ≡ J.mark }
+    requires unwatched { J.received ≡ None }
     requires fresh { publisher.number ≡ 0 }
     requires seat { seat.table ≡ mark.now }
 {

@@ -1,6 +1,6 @@
 //! What an engine answers to feeds.
 
-ghost use Rattle.std.specs.Prelude.{◌≡◌};
+ghost use Rattle.std.specs.Prelude.{◌≡◌, None};
 ghost use Rattle.board.specs.Shown.{tables};
 
 use crate::boards::{batch_of, copying};
@@ -30,6 +30,7 @@ fn answers<J: Naming, V: Views, R: Wait>(
     requires names { tables board.shown ≡ J.names }
     requires graph { board.shown.graph ≡ J.graph }
     requires mark { publisher.table ≡ J.mark }
+    requires unwatched { J.received ≡ None }
     requires fresh { publisher.number ≡ 0 }
 {
     let engine = Engine::<J, V>::new(alloc, board, publisher).ok()?;

@@ -1,6 +1,6 @@
 //! What observers see.
 
-ghost use Rattle.std.specs.Prelude.{◌≡◌, All};
+ghost use Rattle.std.specs.Prelude.{◌≡◌, All, None};
 ghost use Rattle.board.specs.Shown.{tables};
 
 use crate::boards::{batch_of, copying, copying_with_local_views, count_of};
@@ -52,6 +52,7 @@ fn one_record<J: Naming, V: Views, R: Wait>(
     requires names { tables board.shown ≡ J.names }
     requires graph { board.shown.graph ≡ J.graph }
     requires mark { (publisher.table ≡ J.mark) × (mark.now ≡ J.mark) }
+    requires unwatched { J.received ≡ None }
     requires fresh { publisher.number ≡ 0 }
     requires seat { seat.table ≡ J.mark }
 {
@@ -127,6 +128,7 @@ fn sealed_twice<J: Naming, V: Views, R: Wait>(
     requires names { tables board.shown ≡ J.names }
     requires graph { board.shown.graph ≡ J.graph }
     requires mark { publisher.table ≡ J.mark }
+    requires unwatched { J.received ≡ None }
     requires fresh { publisher.number ≡ 0 }
 {
     let engine = Engine::<J, V>::new(alloc, board, publisher).ok()?;
@@ -179,6 +181,7 @@ fn ends_with<J: Naming, V: Views, R: Wait>(
     requires names { tables board.shown ≡ J.names }
     requires graph { board.shown.graph ≡ J.graph }
     requires mark { publisher.table ≡ J.mark }
+    requires unwatched { J.received ≡ None }
     requires fresh { publisher.number ≡ 0 }
     requires seats { All (λ s. s.table ≡ J.mark) seats.items }
 {

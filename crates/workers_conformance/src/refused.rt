@@ -1,6 +1,6 @@
 //! Runs by two threads that lack memory: all workers end.
 
-ghost use Rattle.std.specs.Prelude.{◌≡◌};
+ghost use Rattle.std.specs.Prelude.{◌≡◌, None};
 ghost use Rattle.board.specs.Shown.{tables};
 
 use crate::boards::{COPY, batch_of, count_of, emitted, graph_of};
@@ -50,6 +50,7 @@ fn one_epoch<J: Naming + Send + Sync, V: Views + Send, R: Threads + Wait + Sync>
     requires names { tables board.shown ≡ J.names }
     requires graph { board.shown.graph ≡ J.graph }
     requires mark { publisher.table ≡ J.mark }
+    requires unwatched { J.received ≡ None }
     requires fresh { publisher.number ≡ 0 }
 {
     let shared = Engine::<J, V>::new(alloc, board, publisher).ok()?;

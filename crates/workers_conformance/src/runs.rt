@@ -1,6 +1,6 @@
 //! Runs of an engine by several threads.
 
-ghost use Rattle.std.specs.Prelude.{◌≡◌, All};
+ghost use Rattle.std.specs.Prelude.{◌≡◌, All, None};
 ghost use Rattle.board.specs.Shown.{tables};
 
 use crate::boards::{
@@ -40,6 +40,7 @@ fn two_by_two<J: Naming + Send + Sync, V: Views + Send, G: Gate + Sync, R: Threa
     requires names { tables board.shown ≡ J.names }
     requires graph { board.shown.graph ≡ J.graph }
     requires mark { publisher.table ≡ J.mark }
+    requires unwatched { J.received ≡ None }
     requires fresh { publisher.number ≡ 0 }
 {
     let shared = Engine::<J, V>::new(alloc, board, publisher).ok()?;

@@ -1,6 +1,6 @@
 use Rattle.std.proofs.Common.{◌≡◌, ◌≤◌}
 use Rattle.driver.specs.Tallies.{StaysTally}
-use Rattle.alone.specs.Received.{received_of}
+use Rattle.driver.specs.Received.{received_of}
 use Rattle.alone.specs.Rests.{IsFree}
 use Rattle.alone.proofs.Less.{left}
 use Rattle.alone.proofs.working.work_off.Given as goal

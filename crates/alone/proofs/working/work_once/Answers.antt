@@ -6,7 +6,7 @@ use Rattle.driver.proofs.Tallying.{stays_claim, stays_committed, stays_step, sta
 use Rattle.alone.specs.Rests.{IsAtRest, IsFree}
 use Rattle.alone.proofs.Free.{committed_free, gathers_free, spoiled_free}
 use Rattle.alone.proofs.Less.{claims_stopped, gathers_lead}
-use Rattle.alone.proofs.Sums.{raises_receives}
+use Rattle.driver.proofs.Sums.{raises_receives}
 use Rattle.alone.proofs.Resting.{at_rest, drained_passed_over, drained_rests, idle_passed_over, not_done}
 use Rattle.alone.proofs.working.work_once.Goals as goal
 

@@ -1,7 +1,7 @@
 use Rattle.std.proofs.Common.{◌≡◌, ◌≤◌, ◌+◌}
 use Rattle.events.specs.Outputs.{counted}
 use Rattle.driver.specs.Tallies.{StaysTally}
-use Rattle.alone.specs.Received.{received_of}
+use Rattle.driver.specs.Received.{received_of}
 use Rattle.alone.specs.Rests.{IsFree}
 use Rattle.alone.proofs.working.work_some.Given as goal
 

@@ -3,7 +3,7 @@ use Rattle.std.proofs.lemmas.List.{length-map}
 use Rattle.graph.specs.Shown.{shown_inputs}
 use Rattle.board.specs.Promises.{CountsPassed}
 use Rattle.record_core.specs.Inputs.{input_of}
-use Rattle.alone.specs.Received.{received_of}
+use Rattle.driver.specs.Received.{received_of}
 use Rattle.execution.proofs.Tellings.{near, tells_then}
 use Rattle.execution.proofs.WorkedOff.{is_worked_off}
 use Rattle.execution.proofs.executing.run.Goals as goal

@@ -1,6 +1,6 @@
 use Rattle.std.proofs.Common.{◌≡◌, ◌≤◌}
 use Rattle.driver.specs.Tallies.{StaysTally}
-use Rattle.alone.specs.Received.{received_of}
+use Rattle.driver.specs.Received.{received_of}
 use Rattle.execution.specs.Told.{Tells}
 use Rattle.execution.proofs.single.feed_and_work.Given as goal
 

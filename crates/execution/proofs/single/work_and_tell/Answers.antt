@@ -1,6 +1,6 @@
 use Rattle.std.proofs.Common.{◌∙◌, arith, refl}
 use Rattle.driver.proofs.Tallying.{stays_then}
-use Rattle.alone.specs.Received.{received_of}
+use Rattle.driver.specs.Received.{received_of}
 use Rattle.execution.proofs.Tellings.{told_more, tells_nothing, tells_then}
 use Rattle.execution.proofs.single.work_and_tell.Goals as goal
 

@@ -1,6 +1,6 @@
 use Rattle.std.proofs.Common.{◌≡◌, ◌≤◌}
 use Rattle.driver.specs.Tallies.{StaysTally}
-use Rattle.alone.specs.Received.{received_of}
+use Rattle.driver.specs.Received.{received_of}
 use Rattle.execution.specs.Told.{Tells}
 use Rattle.execution.proofs.single.work_and_tell.Given as goal
 

@@ -5,8 +5,9 @@ use Rattle.execution.proofs.watching.keep_watch.Given as goal
 abbrev pub invariant-loop-turn : goal.invariant-loop-turn
 invariant-loop-turn g l =
     record {
-      of : l.seat.table ≡ l.mark;
-      read : l.watch.told.passed ≤ l.seat.number;
-      received : l.watch.told.received ≡ l.fn.observer.watch.told.received;
+      epochs : l.passed.mark ≡ l.fn.observer.passed.mark;
+      records : l.received.mark ≡ l.fn.observer.received.mark;
+      passed : l.watch.told.passed ≤ l.passed.seat.number;
+      received : l.watch.told.received ≤ l.received.seat.number;
       tells : Tells g.W.Write.contents l.fn.observer.watch.watcher l.watch.watcher l.fn.observer.watch.told l.watch.told;
     }

@@ -10,7 +10,7 @@ invariant_of-self g c = (
   after_claim g.J.Naming.names g.J.Naming.graph c.self.inside.board c.self.inside.publisher.number c.self.invariant.0 c.claim-claimed.new.self c.publish.new.self.number c.law_count.ensures.one c.law_stays.ensures.count c.args.worker c.claim-claimed.result c.claim-claimed.ensures.claims c.claim-claimed.ensures.tables
       (publishes c.self.inside.publisher.number c.claim-claimed.new.self c.passed_count.result c.publish.new.self.number (prompt_applied c.args.worker c.self.inside.board c.claim-claimed.new.self c.self.invariant.0.prompt c.claim-claimed.ensures.applies) c.passed_count.ensures.value c.passed_count.ensures.seen c.publish.ensures.number),
   c.publish.ensures.table ∙ c.self.invariant.1,
-  tally_claimed g.J.Naming.first c.self.inside.board.shown c.self.inside.tally c.self.invariant.2 c.args.worker c.claim-claimed.result c.claim-claimed.new.self.shown c.claim-claimed.ensures.claims,
+  tally_claimed g.J.Naming.first c.self.inside.board.shown c.self.inside.counters.tally c.self.invariant.2 c.args.worker c.claim-claimed.result c.claim-claimed.new.self.shown c.claim-claimed.ensures.claims,
 )
 
 pub returns-clause-published : goal.returns-clause-published

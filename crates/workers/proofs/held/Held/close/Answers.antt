@@ -6,14 +6,14 @@ use Rattle.workers.proofs.Publishing.{after_publishing, after_refusal}
 use Rattle.workers.proofs.held.Held.close.Goals as goal
 
 pub invariant_of-self : goal.invariant_of-self
-invariant_of-self g c = (after_refusal g.J.Naming.names g.J.Naming.graph c.self.inside.board c.self.inside.publisher.number c.self.invariant.0 c.close.new.self c.in_err-close.ensures.refused, c.self.invariant.1, tally_same g.J.Naming.first c.self.inside.board.shown c.self.inside.tally c.self.invariant.2 c.close.new.self.shown (ap (λ (b : BoardShown). b.shown) c.in_err-close.ensures.refused))
+invariant_of-self g c = (after_refusal g.J.Naming.names g.J.Naming.graph c.self.inside.board c.self.inside.publisher.number c.self.invariant.0 c.close.new.self c.in_err-close.ensures.refused, c.self.invariant.1, tally_same g.J.Naming.first c.self.inside.board.shown c.self.inside.counters.tally c.self.invariant.2 c.close.new.self.shown (ap (λ (b : BoardShown). b.shown) c.in_err-close.ensures.refused))
 
 pub returns-in_err-close-clause-published : goal.returns-in_err-close-clause-published
 returns-in_err-close-clause-published g c = (after_refusal g.J.Naming.names g.J.Naming.graph c.self.inside.board c.self.inside.publisher.number c.self.invariant.0 c.close.new.self c.in_err-close.ensures.refused).published
 
 pub invariant_of-self-2 : goal.invariant_of-self-2
 invariant_of-self-2 g c =
-    (after_publishing g.J.Naming.names g.J.Naming.graph c.self.inside.board c.self.inside.publisher.number c.self.invariant.0 c.publish.new.board c.publish.new.publisher.number c.law_stays.ensures.count (Step.close c.args.input) c.close.new.self c.in_ok-close.ensures.step c.close.ensures.tables c.publish.ensures.shown c.publish.ensures.publishes, c.publish.ensures.table ∙ c.self.invariant.1, tally_step g.J.Naming.first c.self.inside.board.shown c.self.inside.tally c.self.invariant.2 (Step.close c.args.input) tt c.close.new.self.shown c.publish.new.board.shown c.in_ok-close.ensures.step c.publish.ensures.shown)
+    (after_publishing g.J.Naming.names g.J.Naming.graph c.self.inside.board c.self.inside.publisher.number c.self.invariant.0 c.publish.new.board c.publish.new.publisher.number c.law_stays.ensures.count (Step.close c.args.input) c.close.new.self c.in_ok-close.ensures.step c.close.ensures.tables c.publish.ensures.shown c.publish.ensures.publishes, c.publish.ensures.table ∙ c.self.invariant.1, tally_step g.J.Naming.first c.self.inside.board.shown c.self.inside.counters.tally c.self.invariant.2 (Step.close c.args.input) tt c.close.new.self.shown c.publish.new.board.shown c.in_ok-close.ensures.step c.publish.ensures.shown)
 
 pub returns-clause-published : goal.returns-clause-published
 returns-clause-published g c =

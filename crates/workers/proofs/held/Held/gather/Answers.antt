@@ -8,7 +8,7 @@ use Rattle.workers.proofs.Publishing.{after_gathering, after_refusal}
 use Rattle.workers.proofs.held.Held.gather.Goals as goal
 
 pub invariant_of-self : goal.invariant_of-self
-invariant_of-self g c = (after_refusal g.J.Naming.names g.J.Naming.graph c.self.inside.board c.self.inside.publisher.number c.self.invariant.0 c.gather.new.board (c.gather.ensures.nothing c.if-not-gather.true), c.self.invariant.1, tally_same g.J.Naming.first c.self.inside.board.shown c.self.inside.tally c.self.invariant.2 c.gather.new.board.shown (ap (λ (b : BoardShown). b.shown) (c.gather.ensures.nothing c.if-not-gather.true)))
+invariant_of-self g c = (after_refusal g.J.Naming.names g.J.Naming.graph c.self.inside.board c.self.inside.publisher.number c.self.invariant.0 c.gather.new.board (c.gather.ensures.nothing c.if-not-gather.true), c.self.invariant.1, tally_same g.J.Naming.first c.self.inside.board.shown c.self.inside.counters.tally c.self.invariant.2 c.gather.new.board.shown (ap (λ (b : BoardShown). b.shown) (c.gather.ensures.nothing c.if-not-gather.true)))
 
 pub returns-then-not-gather-clause-published : goal.returns-then-not-gather-clause-published
 returns-then-not-gather-clause-published g c = (after_refusal g.J.Naming.names g.J.Naming.graph c.self.inside.board c.self.inside.publisher.number c.self.invariant.0 c.gather.new.board (c.gather.ensures.nothing c.if-not-gather.true)).published
@@ -23,7 +23,7 @@ invariant_of-self-2 g c = (
   after_gathering g.J.Naming.names g.J.Naming.graph c.self.inside.board c.self.inside.publisher.number c.self.invariant.0 c.law_count.ensures.one c.passed_count-known.result c.passed_count-known.ensures.value c.passed_count-known.ensures.seen c.gather.new.board c.publish.new.board
       c.publish.new.publisher.number c.gather.ensures.tables c.gather.ensures.graph c.gather.ensures.passed c.publish.ensures.shown c.publish.ensures.applies.passed c.publish.ensures.publishes,
   c.publish.ensures.table ∙ c.self.invariant.1,
-  tally_gathered g.J.Naming.first c.self.inside.board.shown c.self.inside.tally c.self.invariant.2 c.args.worker c.gather.new.board.shown c.publish.new.board.shown c.gather.ensures.gathers c.publish.ensures.shown,
+  tally_gathered g.J.Naming.first c.self.inside.board.shown c.self.inside.counters.tally c.self.invariant.2 c.args.worker c.gather.new.board.shown c.publish.new.board.shown c.gather.ensures.gathers c.publish.ensures.shown,
 )
 
 pub returns-clause-published : goal.returns-clause-published

@@ -8,7 +8,7 @@ use Rattle.events.specs.Outputs.{counted}
 use Rattle.board.specs.declared.sent.Sent.{Sent}
 use Rattle.driver.specs.declared.tally.Counts.{Counts}
 use Rattle.driver.specs.Tallies.{Raises, Rows, at, raised}
-use Rattle.alone.specs.Received.{received_in, received_of}
+use Rattle.driver.specs.Received.{received_in, received_of}
 
 -- one element more in a sum that stays at its limit
 pub sum_more : {X : Type 0} (f : X → ℕ) (xs : List X) (i : ℕ) (d : X) (all next : ℕ) → i < length xs → all ≡ counted (total f (take i xs)) → next ≡ counted (all + f (get_or xs i d)) → next ≡ counted (total f (take (i + 1) xs))

@@ -1,8 +1,8 @@
 use Rattle.std.proofs.Common.{◌∙◌, ◌+◌, [], ap, arith}
 use Rattle.events.specs.Outputs.{counted}
-use Rattle.alone.specs.Received.{received_in}
-use Rattle.alone.proofs.Sums.{sum_more}
-use Rattle.alone.proofs.receiving.received.Goals as goal
+use Rattle.driver.specs.Received.{received_in}
+use Rattle.driver.proofs.Sums.{sum_more}
+use Rattle.driver.proofs.receiving.received.Goals as goal
 
 pub vertices-preserved : goal.vertices-preserved
 vertices-preserved c =

@@ -2,7 +2,7 @@ use denote.Param.Send.{sendable}
 use Rattle.std.proofs.Crossing.{crosses}
 use Rattle.workers.proofs.Crossing.{engine_sync}
 use Rattle.execution.proofs.watching.Observer.TheSendSync as observers
-use Rattle.execution.proofs.threads.work_off_all.Goals as goal
+use Rattle.execution.proofs.threads.work_off_watched.Goals as goal
 
 pub join-requires-send-F : goal.join-requires-send-F
 join-requires-send-F g c κs within =

@@ -1,9 +1,9 @@
 //! What the vertices took in.
 
 ghost use Rattle.std.specs.Prelude.{◌≡◌};
-ghost use Rattle.alone.specs.Received.{received_in, received_of};
+ghost use Rattle.driver.specs.Received.{received_in, received_of};
 
-use driver::{Counts, Tally};
+use crate::tally::{Counts, Tally};
 
 /// How many records a tally says that the vertices took in, at all workers together; 18446744073709551615 if there were more.
 pub fn received(tally: &Tally) -> u64

@@ -4,7 +4,7 @@ use Rattle.workers.specs.Sleeping.{IsCareful}
 use Rattle.workers.specs.Wakeups.{IsAtEnd}
 use Rattle.workers.specs.declared.scheduler.Scheduler.{Scheduler}
 use Rattle.workers.proofs.Rest.{rests}
-use Rattle.workers.proofs.dispatcher.Dispatcher.wake_threads.Goals as goal
+use Rattle.workers.proofs.dispatcher.Dispatcher.wake.Goals as goal
 
 pub returns-clause-lost : goal.returns-clause-lost
 returns-clause-lost g c =
