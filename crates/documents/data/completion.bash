@@ -11,7 +11,7 @@ _loom() {
     elif [ "$before" = --heap ]; then
         words="64 4096 65536 1048576 16777216"
     elif [ "${COMP_WORDS[1]}" = explain ]; then
-        words="$(seq 1 6) $(seq 11 21) $(seq 23 47) --help"
+        words="$(seq 1 6) $(seq 11 47) --help"
     elif [ "${COMP_WORDS[1]}" = help ]; then
         words=$commands
     elif [[ $word == -* ]]; then
@@ -22,7 +22,7 @@ _loom() {
         check) words="--heap --explain --inline --help" ;;
         graph) words="--dot --heap --explain --inline --help" ;;
         format) words="--explain --inline --help" ;;
-        sql) words="--wrapped --epochs --dialect --output --explain --inline --help" ;;
+        sql) words="--with --wrapped --epochs --dialect --output --explain --inline --help" ;;
         encode) words="--dictionary --help" ;;
         decode) words="--dictionary --output --help" ;;
         esac

@@ -6,6 +6,6 @@
         check) words="--heap --explain --inline --help" ;;
         graph) words="--dot --heap --explain --inline --help" ;;
         format) words="--explain --inline --help" ;;
-        sql) words="--wrapped --epochs --dialect --output --explain --inline --help" ;;
+        sql) words="--with --wrapped --epochs --dialect --output --explain --inline --help" ;;
         encode) words="--dictionary --help" ;;
         decode) words="--dictionary --output --help" ;;
