@@ -10,6 +10,9 @@ use std::alloc::Global;
 use std::io;
 use std::io::Write;
 
+/// The bytes of the longest line that says something: a name of 32, and 16 fields of 20, each after a space.
+const LONGEST: usize = 368;
+
 /// The first word of a line, and how many words come after it.
 fn words(line: &[u8]) -> (&[u8], u64) {
     let spaces = line.iter().filter(|byte| **byte == b' ').count() as u64;
@@ -55,7 +58,7 @@ pub fn fault_place(code: u8, line: &[u8]) -> usize {
     match code {
         43 => line.len(),
         44 => bad_place(line),
-        46 => gap_place(line),
+        46 if line.len() <= LONGEST => gap_place(line),
         _ => 0,
     }
 }
@@ -81,6 +84,10 @@ fn write_malformed<W: Write>(line: &[u8], writer: &mut W) -> io::Result<()> {
     let question = of_gap(first);
     match line {
         [] => writeln!(writer, "the line is empty"),
+        _ if line.len() > LONGEST => writeln!(
+            writer,
+            "the line has over 368 bytes, more than any right one"
+        ),
         [b' ', ..] => writeln!(writer, "the line begins with a space"),
         [.., b' '] => writeln!(writer, "the line ends with a space{question}"),
         _ if line.windows(2).any(|pair| pair == b"  ".as_slice()) => {

@@ -9,5 +9,6 @@ pub mod Moved
 pub mod Positions
 pub mod Renewed
 pub mod Reported
+pub mod TooLong
 pub mod Waiting
 pub mod Working

@@ -12,6 +12,7 @@ use Rattle.collector.specs.declared.refusal.Fault.TheVariants.{Malformed, TooMan
 use Rattle.collector.proofs.LinesRead.{filled, say_push}
 use Rattle.graph.specs.Shown.{shown_inputs}
 use Rattle.collector.specs.InputText.{LinesSay, epochs_after}
+use Rattle.follow.specs.Follows.{IsTooLong}
 use Rattle.follow.specs.Scenes.{Grows, HasTaken, IsTakenSo}
 use Rattle.follow.specs.Steps.{CanTake, Continues, Counts, TakesItem, TakesLines}
 use Rattle.follow.specs.declared.intake.Intake.{Intake}
@@ -111,17 +112,24 @@ took_fault base s t x y inputs text rest line after fault code takes cut bad is 
       reached = r.taken;
       continues = r.continues;
       grows = r.grows;
-      stops = (
+      stops = inl (
         (r.lines, r.later, r.taken.said, refl, line, split_on 10 after, r.taken.parts ∙ ap (λ (ls : List (List ℕ)). r.lines ++ ls) cut, inr (fault, is, filled after, subst (λ (k : ℕ). IsFault inputs k line fault) r.taken.fed.begun bad)),
         λ e. no_line_feed fault (sym is ∙ e),
       );
     }
 
-pub took_all : (base : ℕ) (s t : Shown) (x y : Intake) (inputs : List Input) (text rest : List ℕ) → Takes base s t x y inputs text rest → split_on 10 rest ≡ rest ∷ []
+pub took_all : (base : ℕ) (s t : Shown) (x y : Intake) (inputs : List Input) (text rest : List ℕ) → Takes base s t x y inputs text rest → split_on 10 rest ≡ rest ∷ [] → length rest ≤ 368
     → TakesLines base s t x y inputs text rest taken.Whole
-took_all base s t x y inputs text rest takes none = λ bytes lines items h.
+took_all base s t x y inputs text rest takes none short = λ bytes lines items h.
     let r = takes bytes lines items h in
-    record { lines = r.lines; later = r.later; reached = r.taken; continues = r.continues; grows = r.grows; stops = none }
+    record { lines = r.lines; later = r.later; reached = r.taken; continues = r.continues; grows = r.grows; stops = (none, short) }
+
+-- the next line is too long
+pub took_long : (base : ℕ) (s t : Shown) (x y : Intake) (inputs : List Input) (text rest : List ℕ) → Takes base s t x y inputs text rest → IsTooLong (split_on 10 rest)
+    → TakesLines base s t x y inputs text rest (taken.Fault 46)
+took_long base s t x y inputs text rest takes long = λ bytes lines items h.
+    let r = takes bytes lines items h in
+    record { lines = r.lines; later = r.later; reached = r.taken; continues = r.continues; grows = r.grows; stops = inr (refl, long) }
 
 pub unended_nothing : (rest : List ℕ) → rest ≡ [] → split_on 10 rest ≡ rest ∷ []
 unended_nothing rest e = ap (split_on 10) e ∙ ap (λ (bs : List ℕ). bs ∷ []) (sym e)

@@ -127,9 +127,9 @@ halted offset g s base x t bytes pending ended start now halt.NoMemory w = known
 halted offset g s base x t bytes pending ended start now halt.Count w = known_follows offset g s base x t bytes pending bytes ended start now (Err ending.Count) (split_on 10 pending) w.known w.known.taken.parts tt w.written
 
 -- the reader failed
-pub unread : (offset : ℕ) → (g : GraphValue) (s : Shown) (base : ℕ) (x : Intake) (t : Reporting) (bytes pending : List ℕ) (ended : Bool) (start now : Option (List ℕ)) → IsWritten offset g s base x t bytes pending start now → split_on 10 pending ≡ pending ∷ [] → Follows offset g bytes ended start now (Err ending.Read)
-unread offset g s base x t bytes pending ended start now w unended =
-    known_follows offset g s base x t bytes pending bytes ended start now (Err ending.Read) (pending ∷ []) w.known (w.known.taken.parts ∙ ap (λ (ps : List (List ℕ)). w.known.lines ++ ps) unended) (pending, refl) w.written
+pub unread : (offset : ℕ) → (g : GraphValue) (s : Shown) (base : ℕ) (x : Intake) (t : Reporting) (bytes pending : List ℕ) (ended : Bool) (start now : Option (List ℕ)) → IsWritten offset g s base x t bytes pending start now → split_on 10 pending ≡ pending ∷ [] → length pending ≤ 368 → Follows offset g bytes ended start now (Err ending.Read)
+unread offset g s base x t bytes pending ended start now w unended short =
+    known_follows offset g s base x t bytes pending bytes ended start now (Err ending.Read) (pending ∷ []) w.known (w.known.taken.parts ∙ ap (λ (ps : List (List ℕ)). w.known.lines ++ ps) unended) (pending, refl, short) w.written
 
 -- ---- one more piece
 
@@ -257,9 +257,11 @@ faults offset g s base x t bytes pending code ended start now e w stops is =
     let line : x.line + 1 ≡ length w.known.lines + 1 = ap (λ (n : ℕ). n + 1) w.known.taken.counted in
     subst (λ (y : Ending). Follows offset g bytes ended start now (Err y)) (sym is)
     (known_follows offset g s base x t bytes pending bytes ended start now (Err (ending.Input code (x.line + 1))) (split_on 10 pending) w.known w.known.taken.parts (record {
-      refused = subst (λ (n : ℕ). IsRefused (shown_inputs g) bytes (At code n)) (sym line) stops.0;
+      refused = elim stops [
+        | inl told ↦ inl (subst (λ (n : ℕ). IsRefused (shown_inputs g) bytes (At code n)) (sym line) told.0, λ c. absurd (told.1 c))
+        | inr long ↦ inr long
+      ];
       next = line;
-      last = λ c. absurd (stops.1 c);
     }) w.written)
 
 -- ---- the end of the input
@@ -273,9 +275,8 @@ unended_last offset g s base x t bytes pending ended start now e w unended end s
     let parts : split_on 10 bytes ≡ k.lines ++ pending ∷ [] = k.taken.parts ∙ ap (λ (ps : List (List ℕ)). k.lines ++ ps) unended in
     subst (λ (y : Ending). Follows offset g bytes ended start now (Err y)) (sym is)
     (known_follows offset g s base x t bytes pending bytes ended start now (Err (ending.Input 43 (x.line + 1))) (pending ∷ []) k parts (record {
-      refused = (k.lines, k.items, k.taken.said, line, pending, [], parts, inl (refl, some, refl));
+      refused = inl ((k.lines, k.items, k.taken.said, line, pending, [], parts, inl (refl, some, refl)), λ c. end);
       next = line;
-      last = λ c. end;
     }) w.written)
 
 -- what is written at the end

@@ -14,7 +14,7 @@ use Rattle.collector.specs.InputText.{IsInputText, IsRefused, LinesSay, epochs_a
 use Rattle.collector.specs.Watching.{Hands, has_ended, inner_of}
 use Rattle.collector.specs.WrittenBytes.{AppendsFront}
 use Rattle.collector.specs.declared.refusal.InputRefusal.TheVariants.{At}
-use Rattle.collector.specs.declared.codes.TheConstants.{NO_LINE_FEED}
+use Rattle.collector.specs.declared.codes.TheConstants.{MALFORMED, NO_LINE_FEED}
 use Rattle.collector.specs.declared.watched.Watched.{Watched}
 use Rattle.follow.specs.Entries.{AreAt, Entry, complete_line, entry_line, records_of}
 use Rattle.follow.specs.declared.outcome.Ending.{Ending}
@@ -69,18 +69,28 @@ pub record IsAllReported (inputs : List Input) (bytes : List ℕ) (ended : Bool)
   pub complete : done ≡ epochs_after 0 items
   pub none : entries ≡ []
 
--- the line after those that were read is the first faulty one; a last line without line feed is faulty only at the end
-pub record IsFaulty (inputs : List Input) (bytes : List ℕ) (ended : Bool) (lines : List (List ℕ)) (code line : ℕ) : Type 0 where
-  pub refused : IsRefused inputs bytes (At code line)
-  pub next : line ≡ length lines + 1
-  pub last : code ≡ NO_LINE_FEED → ended ≡ true
+-- the bytes of the longest line that says something: a name of 32, and 16 fields of 20, each after a space
+abbrev pub max_line : ℕ
+max_line = 368
 
--- how far the bytes were read: to the end, to a faulty line, to the last whole line before the reader failed, over more bytes than are taken, or unspecified
+-- the first of these lines has more bytes than that, so it says nothing, whatever comes after them
+abbrev pub IsTooLong : (rest : List (List ℕ)) → Type 0
+IsTooLong [] = ⊥
+IsTooLong (line ∷ rest) = max_line < length line
+
+-- The line after those that were read is the first faulty one. A last line without line feed is faulty only at the end; one that is too long is
+-- malformed, and may still come.
+pub record IsFaulty (inputs : List Input) (bytes : List ℕ) (ended : Bool) (lines rest : List (List ℕ)) (code line : ℕ) : Type 0 where
+  pub refused : (IsRefused inputs bytes (At code line) × (code ≡ NO_LINE_FEED → ended ≡ true)) ⊎ ((code ≡ MALFORMED) × IsTooLong rest)
+  pub next : line ≡ length lines + 1
+
+-- how far the bytes were read: to the end, to a faulty line, to the last whole line before the reader failed, so that what is left isn't too long,
+-- over more bytes than are taken, or unspecified
 abbrev pub Reaches : List Input → (bytes : List ℕ) → (ended : Bool) → (lines : List (List ℕ)) → List Item
     → (rest : List (List ℕ)) → (done : ℕ) → List Entry → Result (Unit {0}) Ending → Type 0
 Reaches inputs bytes ended lines items rest done entries (Ok _) = IsAllReported inputs bytes ended items done entries
-Reaches inputs bytes ended lines items rest done entries (Err (ending.Input code line)) = IsFaulty inputs bytes ended lines code line
-Reaches inputs bytes ended lines items rest done entries (Err ending.Read) = (piece : List ℕ) × (rest ≡ piece ∷ [])
+Reaches inputs bytes ended lines items rest done entries (Err (ending.Input code line)) = IsFaulty inputs bytes ended lines rest code line
+Reaches inputs bytes ended lines items rest done entries (Err ending.Read) = (piece : List ℕ) × (rest ≡ piece ∷ []) × (length piece ≤ max_line)
 Reaches inputs bytes ended lines items rest done entries (Err ending.Write) = Unit {0}
 Reaches inputs bytes ended lines items rest done entries (Err ending.NoMemory) = Unit {0}
 Reaches inputs bytes ended lines items rest done entries (Err ending.Count) = Unit {0}

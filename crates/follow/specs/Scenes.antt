@@ -16,7 +16,7 @@ use Rattle.collector.specs.Pieces.{split_on}
 use Rattle.collector.specs.Lines.{Item}
 use Rattle.collector.specs.InputText.{LinesSay, epochs_after}
 use Rattle.follow.specs.Entries.{Entry, records_of}
-use Rattle.follow.specs.Follows.{IsPart, IsReport, said_records}
+use Rattle.follow.specs.Follows.{IsPart, IsReport, max_line, said_records}
 use Rattle.follow.specs.declared.intake.Intake.{Intake}
 use Rattle.follow.specs.declared.position.Position.{Position}
 use Rattle.follow.specs.declared.reporting.Reporting.{Reporting}
@@ -194,7 +194,8 @@ pub record IsWritten (offset : ℕ) (g : GraphValue) (s : Shown) (base : ℕ) (x
 abbrev pub IsWrittenSo : (offset : ℕ) → GraphValue → Shown → Position → (now : Option (List ℕ)) → Type 0
 IsWrittenSo offset g s p now = (bytes : List ℕ) × (start : Option (List ℕ)) × IsWritten offset g s p.base p.intake p.reporting bytes p.pending.items start now
 
--- the position once these bytes were read: the answer to their lines is written, and what is pending is part of a line
+-- the position once these bytes were read: the answer to their lines is written, and what is pending may be part of a line
 pub record IsPositionAfter (offset : ℕ) (g : GraphValue) (s : Shown) (p : Position) (bytes : List ℕ) (old new : Option (List ℕ)) : Type 0 where
   pub written : IsWritten offset g s p.base p.intake p.reporting bytes p.pending.items old new
   pub unended : split_on 10 p.pending.items ≡ p.pending.items ∷ []
+  pub short : length p.pending.items ≤ max_line

@@ -1,5 +1,5 @@
 -- What the calls of following do.
-use Rattle.std.specs.Prelude.{◌≡◌, ◌≢◌, ◌<◌, ◌≤◌, ℕ, ◌+◌, ◌-◌, ◌==◌, cond, Bool, true, List, [], ◌∷◌, ◌++◌, length, map, drop, slice_get, Option, Some, Result, Ok, Err}
+use Rattle.std.specs.Prelude.{◌≡◌, ◌⊎◌, ◌≢◌, ◌<◌, ◌≤◌, ℕ, ◌+◌, ◌-◌, ◌==◌, cond, Bool, true, List, [], ◌∷◌, ◌++◌, length, map, drop, slice_get, Option, Some, Result, Ok, Err}
 use Rattle.std.specs.List.{flat_map}
 use Rattle.semantics.specs.Multiset.{Record}
 use Rattle.semantics.specs.Query.{Input}
@@ -12,9 +12,9 @@ use Rattle.collector.specs.Pieces.{split_on}
 use Rattle.collector.specs.Lines.{Item, Says}
 use Rattle.collector.specs.InputText.{IsRefused, epochs_after, records_in}
 use Rattle.collector.specs.declared.refusal.InputRefusal.TheVariants.{At}
-use Rattle.collector.specs.declared.codes.TheConstants.{NO_LINE_FEED}
+use Rattle.collector.specs.declared.codes.TheConstants.{MALFORMED, NO_LINE_FEED}
 use Rattle.follow.specs.Entries.{Entry, records_of, row_line}
-use Rattle.follow.specs.Follows.{Follows, IsPart, said_records}
+use Rattle.follow.specs.Follows.{Follows, IsPart, IsTooLong, max_line, said_records}
 use Rattle.follow.specs.Scenes.{Grows, HasTaken, HasReported, HasRoom, IsAllFed, IsFed, IsReady, IsWritten, arities_of, IsPositionAfter, batches_of, fed_at, open_at, reported_count, waiting}
 use Rattle.follow.specs.declared.outcome.Ending.{Ending}
 use Rattle.follow.specs.declared.outcome.Ending.TheVariants as ending
@@ -108,10 +108,11 @@ pub record Continues (items later : List Item) : Type 0 where
 abbrev pub EndsInEpoch : List Item → Type 0
 EndsInEpoch items = (before : List Item) × (items ≡ before ++ Item.epoch ∷ [])
 
--- why taking lines stopped: the rest is part of a line, the next line has a fault of that code, or an epoch has begun
+-- why taking lines stopped: the rest is part of a line, the next line has a fault of that code or is too long, or an epoch has begun
 abbrev pub Stops : List Input → (bytes rest : List ℕ) → (lines : ℕ) → List Item → Taken → Type 0
-Stops inputs bytes rest n items taken.Whole = split_on 10 rest ≡ rest ∷ []
-Stops inputs bytes rest n items (taken.Fault code) = IsRefused inputs bytes (At code (n + 1)) × (code ≡ NO_LINE_FEED → ⊥)
+Stops inputs bytes rest n items taken.Whole = (split_on 10 rest ≡ rest ∷ []) × (length rest ≤ max_line)
+Stops inputs bytes rest n items (taken.Fault code) =
+    (IsRefused inputs bytes (At code (n + 1)) × (code ≡ NO_LINE_FEED → ⊥)) ⊎ ((code ≡ MALFORMED) × IsTooLong (split_on 10 rest))
 Stops inputs bytes rest n items taken.Epoch = EndsInEpoch items
 
 -- lines were taken, and these bytes are left

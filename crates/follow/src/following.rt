@@ -16,7 +16,7 @@ ghost use Rattle.follow.specs.declared.line_stop.Taken.TheVariants as taken;
 
 use crate::answering::{answer_last, answer_open};
 use crate::intake::{Intake, take_lines};
-use crate::line_stop::Taken;
+use crate::line_stop::{Taken, is_too_long};
 use crate::numbering::{FirstEpoch, Numbering};
 use crate::outcome::{Ending, Halt};
 use crate::position::Position;
@@ -137,7 +137,7 @@ fn follow_lines<V: Views, R: Threads + Sync, W: Write>(
     }
 }
 
-/// Follows a piece of the input, after the pending part of a line. A piece without line feed is only added to it.
+/// Follows a piece of the input, after the pending part of a line. A piece without line feed is only added to it, unless that becomes too long.
 fn follow_piece<R: Threads + Sync, W: Write>(
     rt: &R,
     alloc: Global,
@@ -161,7 +161,7 @@ fn follow_piece<R: Threads + Sync, W: Write>(
     if position.pending.extend_from_slice(piece).is_err() {
         return Err(Ending::NoMemory);
     }
-    if find(piece, b'\n').is_none() {
+    if find(piece, b'\n').is_none() && !is_too_long(position.pending.as_slice()) {
         return Ok(());
     }
     let inputs = plan.graph.inputs();
@@ -317,7 +317,7 @@ fn follow_graph<T: Threads + Sync, R: Read, W: Write>(
 /// The records of the first epoch that isn't complete are written as they come, and the line that says that it is complete once it has passed at
 /// every output. Epochs are called by their numbers, counted from that of the first. At `Ok` every epoch is complete. What was written before a fault
 /// stays true: it is an answer to the lines before the fault. The bytes read after the last line that was taken are left in `rest`; at a fault they
-/// begin with the faulty line.
+/// begin with the faulty line, or with so much of one as shows that it is too long.
 pub fn follow<T: Threads + Sync, R: Read, W: Write>(
     rt: &T,
     alloc: Global,

@@ -10,10 +10,10 @@ ghost use Rattle.follow.specs.Steps.{CanTake, Counts, Empties, FeedsPortion, Fee
 ghost use Rattle.follow.specs.declared.line_stop.Taken.TheVariants as taken;
 
 use crate::board_calls::{feed, seal_inputs};
-use crate::line_stop::Taken;
+use crate::line_stop::{Taken, is_too_long};
 use crate::outcome::Halt;
 use board::Board;
-use collector::{Line, Stop, next_line};
+use collector::{Line, MALFORMED, Stop, next_line};
 use driver::law_inputs;
 use record_core::DeclaredInput;
 use rows::{Batch, Rows};
@@ -180,6 +180,9 @@ pub fn take_lines<'a, V: Views>(
     let mut fields = Vec::new(alloc);
     let mut rest = text;
     while !rest.is_empty() {
+        if is_too_long(rest) {
+            return Ok((rest, Taken::Fault(MALFORMED)));
+        }
         match next_line(rest, inputs, base + intake.begun, &mut fields) {
             Ok((said, after)) => {
                 take_item(alloc, board, intake, said, fields.as_slice())?;

@@ -30,6 +30,7 @@ mod slot;
 mod worker_count;
 
 pub use following::{Manner, follow};
+pub use line_stop::law_longest_line;
 pub use numbering::FirstEpoch;
 pub use outcome::Ending;
 pub use worker_count::WorkerCount;

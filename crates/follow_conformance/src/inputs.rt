@@ -104,6 +104,26 @@ fn byte_by_byte(rt: HostRuntime) -> Result<(), AllocError> {
     Ok(())
 }
 
+/// A line is refused with its 369th byte: the reader would fail if it were asked for more.
+#[test]
+fn longest_line(rt: HostRuntime) -> Result<(), AllocError> {
+    let Some(graph) = graph_of(rt.alloc(), AUDIENCE) else {
+        return Err(AllocError);
+    };
+    let mut text = Vec::from_slice(rt.alloc(), b"epoch\nbuyer 7\nbuyer ")?;
+    text.extend_from_slice(&[b'7'; 400])?;
+    let mut out = Watched::new(Vec::new(rt.alloc()));
+    let mut reader = Watched::new(Slow {
+        text: text.as_slice(),
+        most: 1,
+        left: 6 + 8 + 369,
+    });
+    let ended = ended_by(&rt, rt.alloc(), 1, graph, &mut reader, &mut out);
+    assert_eq!(rt; ended, Err(Ending::Input { code: 46, line: 3 }));
+    assert_eq!(rt; out.into_inner().as_slice(), b"0 7\n".as_slice());
+    Ok(())
+}
+
 #[test]
 fn broken_reader(rt: HostRuntime) -> Result<(), AllocError> {
     let Some(graph) = graph_of(rt.alloc(), AUDIENCE) else {

@@ -27,6 +27,7 @@ follow_pieces-ended-requires-clause-first g c κs within =
     record {
       written = subst (λ (xs : List ℕ). IsWritten c.args.plan.now.first.number graph c.args.board.now.shown p.base p.intake p.reporting [] xs start start) (sym first.none) at_first;
       unended = subst (λ (xs : List ℕ). split_on 10 xs ≡ xs ∷ []) (sym first.none) refl;
+      short = let n = ap length first.none in omega (arith, n);
     }
 
 pub follow_pieces-ended-requires-clause-none : goal.follow_pieces-ended-requires-clause-none

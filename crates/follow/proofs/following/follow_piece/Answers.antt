@@ -1,17 +1,18 @@
-use Rattle.std.proofs.Common.{◌≡◌, ◌∙◌, ◌∷◌, ◌++◌, [], List, ℕ, ap, arith, length, subst, sym}
+use Rattle.std.proofs.Common.{◌≡◌, ◌↔◌, ◌∙◌, ◌∷◌, ◌++◌, [], List, ℕ, ap, arith, length, subst, sym}
 use Rattle.std.proofs.lemmas.List.{length-append}
-use Rattle.std.specs.Prelude.{Err, Option, false}
+use Rattle.std.specs.Prelude.{Err, IsTrue, Option, false}
 use Rattle.graph.specs.Shown.{shown_inputs}
 use Rattle.collector.specs.Pieces.{split_on}
 use Rattle.collector.specs.Watching.{inner_of}
 use Rattle.collector.proofs.Splits.{split_none}
-use Rattle.follow.specs.Follows.{Follows}
+use Rattle.follow.specs.Follows.{Follows, IsTooLong}
 use Rattle.follow.specs.Scenes.{IsWritten}
 use Rattle.follow.specs.Steps.{Stops}
 use Rattle.follow.specs.declared.outcome.Halt.TheVariants as halt
 use Rattle.follow.proofs.Calls.{none_of, ok_items}
 use Rattle.follow.proofs.Cuts.{unended_both}
 use Rattle.follow.proofs.Positions.{faults, few_written, halted, more_pending}
+use Rattle.follow.proofs.TooLong.{short_rest}
 use Rattle.follow.proofs.following.follow_piece.Goals as goal
 
 pub returns-then-is_err-clause-follows : goal.returns-then-is_err-clause-follows
@@ -21,16 +22,20 @@ returns-then-is_err-clause-follows g c = λ bytes ended start st.
     let w = more_pending c.args.plan.now.first.number c.args.plan.now.graph.value c.args.board.now.shown p.base p.intake p.reporting bytes p.pending.items c.args.piece.now start now st.written in
     halted c.args.plan.now.first.number c.args.plan.now.graph.value c.args.board.now.shown p.base p.intake p.reporting (bytes ++ c.args.piece.now) (p.pending.items ++ c.args.piece.now) ended start now halt.NoMemory w
 
-pub returns-then-is_none-clause-follows : goal.returns-then-is_none-clause-follows
-returns-then-is_none-clause-follows g c = λ bytes ended start st.
+pub returns-then-not-is_too_long-clause-follows : goal.returns-then-not-is_too_long-clause-follows
+returns-then-not-is_too_long-clause-follows g c = λ bytes ended start st.
     let p = c.args.position.now in
     let now = g.W.Write.contents (inner_of c.args.writer.now) in
-    let text : c.extend_from_slice.new.self.items ≡ p.pending.items ++ c.args.piece.now = ok_items c.extend_from_slice.result c.is_err.result c.extend_from_slice.new.self.items (p.pending.items ++ c.args.piece.now) p.pending.items c.is_err.ensures.value c.if-is_err.false c.extend_from_slice.ensures.items in
+    let all = c.extend_from_slice.new.self.items in
+    let text : all ≡ p.pending.items ++ c.args.piece.now = ok_items c.extend_from_slice.result c.is_err.result all (p.pending.items ++ c.args.piece.now) p.pending.items c.is_err.ensures.value c.if-is_err.false c.extend_from_slice.ensures.items in
     let none = split_none 10 c.args.piece.now (none_of c.find.result c.is_none.result c.is_none.ensures c.if-is_none.true c.find.ensures.none) in
     let w = more_pending c.args.plan.now.first.number c.args.plan.now.graph.value c.args.board.now.shown p.base p.intake p.reporting bytes p.pending.items c.args.piece.now start now st.written in
+    let unended = subst (λ (xs : List ℕ). split_on 10 xs ≡ xs ∷ []) (sym text) (unended_both p.pending.items c.args.piece.now st.unended none) in
+    let long = subst (λ (xs : List ℕ). IsTrue c.is_too_long.result ↔ IsTooLong (split_on 10 xs)) c.as_slice.ensures.value c.is_too_long.ensures in
     record {
       written = subst (λ (xs : List ℕ). IsWritten c.args.plan.now.first.number c.args.plan.now.graph.value c.args.board.now.shown p.base p.intake p.reporting (bytes ++ c.args.piece.now) xs start now) (sym text) w;
-      unended = subst (λ (xs : List ℕ). split_on 10 xs ≡ xs ∷ []) (sym text) (unended_both p.pending.items c.args.piece.now st.unended none);
+      unended = unended;
+      short = short_rest all c.is_too_long.result unended long c.if-not-is_too_long.true;
     }
 
 pub boards-init : goal.boards-init
@@ -70,7 +75,8 @@ returns-in-Ok-Whole-clause-follows g c = λ bytes ended start st.
     let q = c.follow_lines.new.position in
     let all = bytes ++ c.args.piece.now in
     let r = c.in-Ok-Whole.ensures.follows c.args.plan.now.graph.value all ended start inputs (c.boards.invariant.written bytes start st) in
-    record { written = r.0; unended = subst (λ k. Stops (shown_inputs c.args.plan.now.graph.value) all q.pending.items (length r.0.known.lines) r.0.known.items k) c.in-Ok-Whole.field-0-is r.1 }
+    let stops = subst (λ k. Stops (shown_inputs c.args.plan.now.graph.value) all q.pending.items (length r.0.known.lines) r.0.known.items k) c.in-Ok-Whole.field-0-is r.1 in
+    record { written = r.0; unended = stops.0; short = stops.1 }
 
 pub returns-in-Ok-Fault-clause-follows : goal.returns-in-Ok-Fault-clause-follows
 returns-in-Ok-Fault-clause-follows g c = λ bytes ended start st.

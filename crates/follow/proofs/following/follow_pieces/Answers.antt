@@ -65,7 +65,7 @@ returns-in_default-clause-follows g c =
       b.0,
       false,
       read_failed g.R.Read.remaining c.args.reader.now c.pieces.reader c.pull.new.self b.0 b.1 c.in_default.ensures.none c.in_default.ensures.bytes,
-      unread c.args.plan.now.first.number c.args.plan.now.graph.value c.pieces.board.shown p.base p.intake p.reporting b.0 p.pending.items false start (g.W.Write.contents (inner_of c.pieces.writer)) b.2.written b.2.unended,
+      unread c.args.plan.now.first.number c.args.plan.now.graph.value c.pieces.board.shown p.base p.intake p.reporting b.0 p.pending.items false start (g.W.Write.contents (inner_of c.pieces.writer)) b.2.written b.2.unended b.2.short,
     )
 
 pub returns-then-count-eq0-clause-follows : goal.returns-then-count-eq0-clause-follows

@@ -1,10 +1,11 @@
-use Rattle.std.proofs.Common.{◌≡◌, ◌∷◌, ◌+◌, ◌∙◌, [], ℕ, List, arith, map, sym}
+use Rattle.std.proofs.Common.{◌≡◌, ◌∷◌, ◌+◌, ◌∙◌, [], ℕ, List, ap, arith, length, map, sym}
 use Rattle.record_core.specs.Inputs.{input_of}
 use Rattle.collector.specs.Pieces.{split_on}
 use Rattle.collector.specs.Said.{item_of}
 use Rattle.collector.specs.Lines.{IsFault, Says, code_of}
 use Rattle.collector.proofs.LinesRead.{no_rest}
-use Rattle.follow.proofs.Lines.{can_take, few_epochs, still_inputs, taken_so, takes_more, takes_none, took_all, took_epoch, took_fault, unended_nothing}
+use Rattle.follow.proofs.Lines.{can_take, few_epochs, still_inputs, taken_so, takes_more, takes_none, took_all, took_epoch, took_fault, took_long, unended_nothing}
+use Rattle.follow.proofs.TooLong.{short_rest}
 use Rattle.follow.proofs.intake.take_lines.Goals as goal
 
 pub loop-alloc-init : goal.loop-alloc-init
@@ -64,9 +65,18 @@ pub returns-in-Err-NoLineFeed-clause-lines : goal.returns-in-Err-NoLineFeed-clau
 returns-in-Err-NoLineFeed-clause-lines g c =
     let none : split_on 10 c.loop-alloc.rest.now ≡ c.loop-alloc.rest.now ∷ [] = rw c.in-Err-NoLineFeed.field-0-is at c.in-Err-NoLineFeed.ensures in
     took_all c.args.base c.args.board.now.shown c.loop-alloc.board.shown c.args.intake.now c.loop-alloc.intake (map input_of c.args.inputs.now) c.args.text.now c.loop-alloc.rest.now c.loop-alloc.invariant.takes none
+    (short_rest c.loop-alloc.rest.now c.is_too_long.result none c.is_too_long.ensures c.if-is_too_long.false)
+
+pub returns-then-is_too_long-clause-lines : goal.returns-then-is_too_long-clause-lines
+returns-then-is_too_long-clause-lines g c =
+    took_long c.args.base c.args.board.now.shown c.loop-alloc.board.shown c.args.intake.now c.loop-alloc.intake (map input_of c.args.inputs.now) c.args.text.now c.loop-alloc.rest.now c.loop-alloc.invariant.takes (c.is_too_long.ensures.0 c.if-is_too_long.true)
+
+pub returns-then-is_too_long-clause-counted : goal.returns-then-is_too_long-clause-counted
+returns-then-is_too_long-clause-counted g c = c.loop-alloc.invariant.counted
 
 pub returns-clause-lines : goal.returns-clause-lines
 returns-clause-lines g c = took_all c.args.base c.args.board.now.shown c.loop-alloc.board.shown c.args.intake.now c.loop-alloc.intake (map input_of c.args.inputs.now) c.args.text.now c.loop-alloc.rest.now c.loop-alloc.invariant.takes (unended_nothing c.loop-alloc.rest.now (no_rest c.loop-alloc.rest.now c.is_empty.result c.is_empty.ensures c.loop-alloc-test.false))
+    (let n = ap length (no_rest c.loop-alloc.rest.now c.is_empty.result c.is_empty.ensures c.loop-alloc-test.false) in omega (arith, n))
 
 pub returns-then-begins_epoch-clause-shorter : goal.returns-then-begins_epoch-clause-shorter
 returns-then-begins_epoch-clause-shorter g c = λ e. let l = c.in-Ok.ensures.2 in let w = c.loop-alloc.invariant.within in omega (arith, l, w)
