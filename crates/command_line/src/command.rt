@@ -241,24 +241,28 @@ fn run_command<'a>(alloc: Global) -> Result<Command<'a>, AllocError>
     ensures app { IfOk result (λ c. app_of c ≡ run_app) }
     ensures local { IfOk result (λ c. (fields_of c).has_globals ≡ false) }
 {
-    let command = named(alloc, "run", "Answer a query over an input, epoch by epoch")
-        .arg(workers_arg(alloc))?
-        .arg(flag_arg(
-            alloc,
-            "watch",
-            "Report on standard error how many epochs have passed",
-        ))?
-        .arg(flag_arg(
-            alloc,
-            "stats",
-            "After the run, report on standard error what each vertex did",
-        ))?
-        .arg(flag_arg(
-            alloc,
-            "dot",
-            "The same as --stats, in a drawing for Graphviz",
-        ))?
-        .arg(end_mark_arg(alloc))?;
+    let command = named(
+        alloc,
+        "run",
+        "Answer a query over an input; over CSV files: loom run --help --schema",
+    )
+    .arg(workers_arg(alloc))?
+    .arg(flag_arg(
+        alloc,
+        "watch",
+        "Report on standard error how many epochs have passed",
+    ))?
+    .arg(flag_arg(
+        alloc,
+        "stats",
+        "After the run, report on standard error what each vertex did",
+    ))?
+    .arg(flag_arg(
+        alloc,
+        "dot",
+        "The same as --stats, in a drawing for Graphviz",
+    ))?
+    .arg(end_mark_arg(alloc))?;
     with_query(alloc, command)?.arg(word_arg(alloc, "INPUT", INPUT))
 }
 
