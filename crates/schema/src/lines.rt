@@ -1,18 +1,37 @@
 //! The lines of a schema, each by itself.
 
+ghost use Rattle.std.specs.Prelude.{◌≡◌, ◌≢◌, ◌++◌, ◌∷◌, ℕ, ℤ, List, [], codes, FitsSigned, IfNone, IfOk, IfSome, Some};
+ghost use Rattle.std.specs.Int.{w64};
+ghost use Rattle.csv_cells.specs.Cells.{StandsAs};
+ghost use Rattle.csv_cells.specs.declared.column.Kind.TheVariants.{Text};
+ghost use Rattle.csv_cells.specs.declared.column.Empty.TheVariants.{Refused};
+ghost use Rattle.csv_cells.specs.declared.column.Column.{Column};
+ghost use Rattle.csv_cells.specs.declared.column.Empty.{Empty};
+ghost use Rattle.schema.specs.Schemas.{IsColumn, IsEmptyOf, IsHeader, IsKind, IsName, Lacks};
+ghost use Rattle.schema.specs.Text.{IsEmptyText, kind_text};
+ghost use Rattle.schema.specs.Lines.{AreParts, Epoched, Event, Gives, IsAroundFirst, IsAroundLast, IsColumnWords, IsLine, IsPart, IsProper, IsSaid, IsValue, MayBeValue, Reads, epoched, epoched_text, event_of};
+ghost use Rattle.schema.specs.declared.lines.LineError.TheVariants as error;
+
 use crate::kinds::kind_named;
 use crate::refusal::Fault;
 use csv_cells::{Column, Dictionary, Empty, Kind, read_cell};
 use std::alloc::{AllocError, AllocFailed, Global};
 
+/// In which epochs an input's rows are, by the line that begins it.
+#[derive(Clone, Copy)]
+pub enum HeadEpochs<'a> {
+    One,
+    /// Each in the epoch of its value in the column of that name.
+    By(&'a [u8]),
+    Every,
+}
+
 /// What a line says.
 #[derive(Clone, Copy)]
 pub enum Line<'a> {
-    /// An input begins, with the name of the column whose values begin epochs, or as a part of every epoch.
     Input {
         name: &'a [u8],
-        by: Option<&'a [u8]>,
-        every: bool,
+        epochs: HeadEpochs<'a>,
     },
     Output {
         name: &'a [u8],
@@ -34,52 +53,99 @@ pub enum LineError {
 }
 
 impl<T: Drop> From<AllocFailed<T>> for LineError {
+    ghost from_gives = { λ _ e. e ≡ error.NoMemory };
+
     fn from(_e: AllocFailed<T>) -> LineError {
         LineError::NoMemory
     }
 }
 
 impl From<AllocError> for LineError {
+    ghost from_gives = { λ _ e. e ≡ error.NoMemory };
+
     fn from(_e: AllocError) -> LineError {
         LineError::NoMemory
     }
 }
 
 /// What comes before and after the last place of a byte.
-fn around_last(text: &[u8], byte: u8) -> Option<(&[u8], &[u8])> {
-    let place = text.iter().rposition(|b| *b == byte)?;
-    Some((&text[..place], &text[place + 1..]))
+fn around_last(text: &[u8], byte: u8) -> Option<(&[u8], &[u8])>
+    ensures found { IfSome result (λ p. IsAroundLast byte text.now p.0.now p.1.now) }
+    ensures none { IfNone result (Lacks byte text.now) }
+{
+    let mut end = text.len();
+    while end > 0 {
+        let place = end - 1;
+        if text[place] == byte {
+            return Some((&text[..place], &text[end..]));
+        }
+        end = place;
+    }
+    None
 }
 
 /// What comes before and after the first place of a byte.
-fn around_first(text: &[u8], byte: u8) -> Option<(&[u8], &[u8])> {
-    let place = text.iter().position(|b| *b == byte)?;
-    Some((&text[..place], &text[place + 1..]))
+pub fn around_first(text: &[u8], byte: u8) -> Option<(&[u8], &[u8])>
+    ensures found { IfSome result (λ p. IsAroundFirst byte text.now p.0.now p.1.now) }
+    ensures none { IfNone result (Lacks byte text.now) }
+{
+    for place in 0..text.len() {
+        if text[place] == byte {
+            return Some((&text[..place], &text[place + 1..]));
+        }
+    }
+    None
+}
+
+/// The epochs that the words after an input's name tell.
+fn head_epochs(words: &[u8]) -> HeadEpochs<'_>
+    ensures { (epochs : Epoched) → codes " " ++ words.now ≡ epoched_text epochs → epoched result ≡ epochs }
+{
+    if words == b"every epoch".as_slice() {
+        return HeadEpochs::Every;
+    }
+    match words.strip_prefix(b"by ") {
+        Some(name) => HeadEpochs::By(name),
+        None => HeadEpochs::One,
+    }
 }
 
 /// What `input` says after its word.
-fn input_line(rest: &[u8]) -> Line<'_> {
+fn input_line(rest: &[u8]) -> Line<'_>
+    ensures read { (name : List ℕ) (epochs : Epoched) → IsName name → rest.now ≡ name ++ epoched_text epochs → event_of result ≡ Event.begins_input name epochs }
+    ensures right { IsSaid rest.now (event_of result) }
+{
     match around_first(rest, b' ') {
         None => Line::Input {
             name: rest,
-            by: None,
-            every: false,
-        },
-        Some((name, b"every epoch")) => Line::Input {
-            name,
-            by: None,
-            every: true,
+            epochs: HeadEpochs::One,
         },
         Some((name, words)) => Line::Input {
             name,
-            by: words.strip_prefix(b"by "),
-            every: false,
+            epochs: head_epochs(words),
         },
     }
 }
 
+/// The number that stands for a cell.
+fn number_of(alloc: Global, kind: Kind, value: &[u8]) -> Result<Option<i64>, AllocError>
+    ensures found { kind ≢ Text → IfOk result (λ o. IfSome o (λ n. StandsAs (record { kind = kind; empty = Refused }) [] n value.now)) }
+    ensures only { kind ≢ Text → IfOk result (λ o. (n : ℤ) → FitsSigned w64 n → StandsAs (record { kind = kind; empty = Refused }) [] n value.now → o ≡ Some n) }
+{
+    let column = Column {
+        kind,
+        empty: Empty::Refused,
+    };
+    let mut none = Dictionary::new(alloc);
+    let mut scratch = Vec::new(alloc);
+    read_cell(alloc, column, &mut none, value, &mut scratch)
+}
+
 /// What an empty cell is that stands for this value.
-fn empty_of(alloc: Global, kind: Kind, value: &[u8]) -> Result<Empty, LineError> {
+fn empty_of(alloc: Global, kind: Kind, value: &[u8]) -> Result<Empty, LineError>
+    ensures right { IfOk result (IsEmptyOf kind) }
+    ensures read { (empty : Empty) → IsEmptyOf kind empty → IsValue kind empty value.now → Gives empty result }
+{
     if let Kind::Text = kind {
         return if value == b"\"\"".as_slice() {
             Ok(Empty::Kept)
@@ -87,54 +153,71 @@ fn empty_of(alloc: Global, kind: Kind, value: &[u8]) -> Result<Empty, LineError>
             Err(LineError::Fault(Fault::BadValue))
         };
     }
-    let column = Column {
-        kind,
-        empty: Empty::Refused,
-    };
-    let mut none = Dictionary::new(alloc);
-    let mut scratch = Vec::new(alloc);
-    match read_cell(alloc, column, &mut none, value, &mut scratch)? {
-        Some(number) => Ok(Empty::Number(number)),
-        None => Err(LineError::Fault(Fault::BadValue)),
+    match number_of(alloc, kind, value) {
+        Ok(Some(number)) => Ok(Empty::Number(number)),
+        Ok(None) => Err(LineError::Fault(Fault::BadValue)),
+        Err(_) => Err(LineError::NoMemory),
     }
 }
 
-/// A column, by its name and the words for its kind and its empty cells.
-fn column_line<'a>(
-    alloc: Global,
-    name: &'a [u8],
-    kind: &[u8],
-    value: Option<&[u8]>,
-) -> Result<Line<'a>, LineError> {
+/// A column, by the words for its kind and its empty cells.
+fn column_of(alloc: Global, kind: &[u8], value: Option<&[u8]>) -> Result<Column, LineError>
+    ensures right { IfOk result IsColumn }
+    ensures read { (column : Column) → IsColumn column → kind.now ≡ kind_text column.kind → MayBeValue column.kind column.empty value.entry → Gives column result }
+{
     let Some(kind) = kind_named(kind) else {
         return Err(LineError::Fault(Fault::UnknownKind));
     };
-    let empty = match value {
-        None => Empty::Refused,
-        Some(value) => empty_of(alloc, kind, value)?,
+    let Some(value) = value else {
+        return Ok(Column {
+            kind,
+            empty: Empty::Refused,
+        });
     };
-    Ok(Line::Column {
-        name,
-        column: Column { kind, empty },
-    })
+    match empty_of(alloc, kind, value) {
+        Ok(empty) => Ok(Column { kind, empty }),
+        Err(error) => Err(error),
+    }
+}
+
+/// A column's name, and the words for its kind and its empty cells.
+fn column_parts(words: &[u8]) -> Option<(&[u8], &[u8], Option<&[u8]>)>
+    ensures right { IfSome result (λ p. IsPart p.0.now words.now × ((front : List ℕ) → p.0.now ≢ front ++ codes " or")) }
+    ensures read { (name : List ℕ) (column : Column) → IsHeader name → IsColumn column → IsColumnWords name column words.now → AreParts name column result }
+{
+    let (front, last) = around_last(words, b' ')?;
+    match front.strip_suffix(b" or") {
+        None => Some((front, last, None)),
+        Some(front) => {
+            let (name, kind) = around_last(front, b' ')?;
+            if name.ends_with(b" or") {
+                None
+            } else {
+                Some((name, kind, Some(last)))
+            }
+        }
+    }
 }
 
 /// What a column's line says after its two spaces.
-fn column_words(alloc: Global, words: &[u8]) -> Result<Line<'_>, LineError> {
-    let Some((front, last)) = around_last(words, b' ') else {
-        return Err(LineError::Fault(Fault::Malformed));
-    };
-    match front.strip_suffix(b" or") {
-        None => column_line(alloc, front, last, None),
-        Some(front) => match around_last(front, b' ') {
-            None => Err(LineError::Fault(Fault::Malformed)),
-            Some((name, kind)) => column_line(alloc, name, kind, Some(last)),
+fn column_words(alloc: Global, words: &[u8]) -> Result<Line<'_>, LineError>
+    ensures read { (name : List ℕ) (column : Column) → IsHeader name → IsColumn column → IsColumnWords name column words.now → Reads (Event.has_column name column) result }
+    ensures right { IfOk result (λ said. IsSaid words.now (event_of said)) }
+{
+    match column_parts(words) {
+        None => Err(LineError::Fault(Fault::Malformed)),
+        Some((name, kind, value)) => match column_of(alloc, kind, value) {
+            Ok(column) => Ok(Line::Column { name, column }),
+            Err(error) => Err(error),
         },
     }
 }
 
 /// What `constant` says after its word.
-fn constant_line(rest: &[u8]) -> Result<Line<'_>, LineError> {
+fn constant_line(rest: &[u8]) -> Result<Line<'_>, LineError>
+    ensures read { (name text : List ℕ) → IsName name → rest.now ≡ name ++ (codes " = \"" ++ (text ++ codes "\"")) → Reads (Event.has_constant name text) result }
+    ensures right { IfOk result (λ said. IsSaid rest.now (event_of said)) }
+{
     let Some((name, words)) = around_first(rest, b' ') else {
         return Err(LineError::Fault(Fault::Malformed));
     };
@@ -147,8 +230,11 @@ fn constant_line(rest: &[u8]) -> Result<Line<'_>, LineError> {
     }
 }
 
-/// What a line seems to say. What it says is decided by writing it again, so nothing is promised here.
-pub fn read_line(alloc: Global, line: &[u8]) -> Result<Line<'_>, LineError> {
+/// What a line says.
+pub fn read_line(alloc: Global, line: &[u8]) -> Result<Line<'_>, LineError>
+    ensures read { (event : Event) → IsProper event → IsLine event line.now → Reads event result }
+    ensures right { IfOk result (λ said. IsSaid line.now (event_of said)) }
+{
     if let Some(words) = line.strip_prefix(b"  ") {
         return column_words(alloc, words);
     }

@@ -1,5 +1,8 @@
 //! Why a schema is refused.
 
+ghost use Rattle.std.specs.Prelude.{◌≡◌};
+ghost use Rattle.schema.specs.declared.refusal.SchemaRefusal.TheVariants as refusal;
+
 use std::alloc::{AllocError, AllocFailed};
 use thiserror::Error;
 
@@ -66,12 +69,16 @@ pub enum SchemaRefusal {
 }
 
 impl From<AllocError> for SchemaRefusal {
+    ghost from_gives = { λ _ e. e ≡ refusal.NoMemory };
+
     fn from(_e: AllocError) -> SchemaRefusal {
         SchemaRefusal::NoMemory
     }
 }
 
 impl<T: Drop> From<AllocFailed<T>> for SchemaRefusal {
+    ghost from_gives = { λ _ e. e ≡ refusal.NoMemory };
+
     fn from(_e: AllocFailed<T>) -> SchemaRefusal {
         SchemaRefusal::NoMemory
     }

@@ -1,6 +1,8 @@
 //! The text of a schema.
 
-ghost use Rattle.std.specs.Prelude.{◌≡◌, ◌++◌, IfOk, List, OnOk, codes, map, true, ℕ};
+ghost use Rattle.std.specs.Prelude.{◌≡◌, ◌++◌, length, IfOk, List, OnOk, codes, map, true, ℕ};
+ghost use Rattle.std.specs.List.{AllByRecursion};
+ghost use Rattle.schema.specs.Schemas.{IsColumn, IsEmptyOf, IsSchema, IsTable, said};
 ghost use Rattle.schema.specs.Text.{AreColumnsText, AreTablesText, IsColumnText, IsEmptyText, IsSchemaText, IsTableText, constant_text, constants_text, epochs_text, head_text, kind_text};
 
 use crate::tables::{Constant, Epochs, Schema, Table};
@@ -28,7 +30,8 @@ fn push_kind(out: &mut Vec<u8>, kind: Kind) -> Result<(), AllocError>
 
 /// Appends what an empty cell stands for, and says whether that can be written.
 fn push_empty(out: &mut Vec<u8>, alloc: Global, column: Column) -> Result<bool, AllocError>
-    ensures { IfOk result (λ b. b ≡ true → (text : List ℕ) × IsEmptyText column.empty column.kind text × (out.new.items ≡ out.old.items ++ text)) }
+    ensures right { IsEmptyOf column.kind column.empty → IfOk result (λ b. b ≡ true) }
+    ensures text { IfOk result (λ b. b ≡ true → (text : List ℕ) × IsEmptyText column.empty column.kind text × (out.new.items ≡ out.old.items ++ text)) }
 {
     match column.empty {
         Empty::Refused => Ok(true),
@@ -55,7 +58,8 @@ fn push_column(
     name: &[u8],
     column: Column,
 ) -> Result<bool, AllocError>
-    ensures { IfOk result (λ b. b ≡ true → (text : List ℕ) × IsColumnText name.now column text × (out.new.items ≡ out.old.items ++ text)) }
+    ensures right { IsEmptyOf column.kind column.empty → IfOk result (λ b. b ≡ true) }
+    ensures text { IfOk result (λ b. b ≡ true → (text : List ℕ) × IsColumnText name.now column text × (out.new.items ≡ out.old.items ++ text)) }
 {
     out.extend_from_slice(b"  ")?;
     out.extend_from_slice(name)?;
@@ -102,7 +106,8 @@ fn push_columns(
     names: &[Vec<u8>],
     columns: &[Column],
 ) -> Result<bool, AllocError>
-    ensures { IfOk result (λ b. b ≡ true → (text : List ℕ) × AreColumnsText (map (λ v. v.items) names.now) columns.now text × (out.new.items ≡ out.old.items ++ text)) }
+    ensures right { length names.now ≡ length columns.now → AllByRecursion IsColumn columns.now → IfOk result (λ b. b ≡ true) }
+    ensures text { IfOk result (λ b. b ≡ true → (text : List ℕ) × AreColumnsText (map (λ v. v.items) names.now) columns.now text × (out.new.items ≡ out.old.items ++ text)) }
 {
     if names.len() != columns.len() {
         return Ok(false);
@@ -122,7 +127,8 @@ fn push_table(
     word: &[u8],
     table: &Table,
 ) -> Result<bool, AllocError>
-    ensures { IfOk result (λ b. b ≡ true → (text : List ℕ) × IsTableText word.now table.now text × (out.new.items ≡ out.old.items ++ text)) }
+    ensures right { IsTable (said table.now) → IfOk result (λ b. b ≡ true) }
+    ensures text { IfOk result (λ b. b ≡ true → (text : List ℕ) × IsTableText word.now table.now text × (out.new.items ≡ out.old.items ++ text)) }
 {
     push_head(out, word, table)?;
     push_columns(out, alloc, &table.headers, &table.columns)
@@ -135,7 +141,8 @@ fn push_tables(
     word: &[u8],
     tables: &[Table],
 ) -> Result<bool, AllocError>
-    ensures { IfOk result (λ b. b ≡ true → (text : List ℕ) × AreTablesText word.now tables.now text × (out.new.items ≡ out.old.items ++ text)) }
+    ensures right { AllByRecursion IsTable (map said tables.now) → IfOk result (λ b. b ≡ true) }
+    ensures text { IfOk result (λ b. b ≡ true → (text : List ℕ) × AreTablesText word.now tables.now text × (out.new.items ≡ out.old.items ++ text)) }
 {
     for table in tables {
         if !push_table(out, alloc, word, table)? {
@@ -166,9 +173,11 @@ fn push_constants(out: &mut Vec<u8>, constants: &[Constant]) -> Result<(), Alloc
     Ok(())
 }
 
-/// Appends the text of a schema, and says whether it has one: not if a name or a number of a column is missing, or can't be written.
+/// Appends the text of a schema, and says whether it has one: not if a name or a number of a column is missing, or can't be written. Each right schema
+/// has one.
 pub fn push_schema(out: &mut Vec<u8>, alloc: Global, schema: &Schema) -> Result<bool, AllocError>
-    ensures { IfOk result (λ b. b ≡ true → (text : List ℕ) × IsSchemaText schema.now text × (out.new.items ≡ out.old.items ++ text)) }
+    ensures right { IsSchema schema.now → IfOk result (λ b. b ≡ true) }
+    ensures text { IfOk result (λ b. b ≡ true → (text : List ℕ) × IsSchemaText schema.now text × (out.new.items ≡ out.old.items ++ text)) }
 {
     if !push_tables(out, alloc, b"input ", schema.inputs.as_slice())?
         || !push_tables(out, alloc, b"output ", schema.outputs.as_slice())?
