@@ -3,3 +3,4 @@ pub mod Rows
 mod LastDigits
 mod Joined
 mod Places
+pub mod OneNumber

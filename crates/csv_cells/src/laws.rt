@@ -1,10 +1,13 @@
 //! Laws: a record that is read and written again, and what a text of the grammar reads as.
 
-ghost use Rattle.std.specs.Prelude.{◌≡◌, ℕ, IfOk, IfSome, List, map};
+ghost use Rattle.std.specs.Prelude.{◌≡◌, ◌≢◌, ℕ, ℤ, FitsSigned, IfOk, IfSome, List, map};
+ghost use Rattle.std.specs.Int.{w64};
 ghost use Rattle.csv.specs.Reading.{AreRecords, default_config};
 ghost use Rattle.csv.specs.Records.{fields_of};
 ghost use Rattle.csv.specs.declared.parser.State.TheVariants as st;
+ghost use Rattle.csv_cells.specs.Cells.{StandsAs};
 ghost use Rattle.csv_cells.specs.Rfc4180.{IsRowsText};
+ghost use Rattle.csv_cells.specs.declared.column.Kind.TheVariants as kind;
 
 use crate::column::Column;
 use crate::dictionary::Dictionary;
@@ -27,6 +30,12 @@ pub fn through_numbers(
     let written = write_row(alloc, columns, dictionary, numbers.as_slice())?;
     Ok(written)
 }
+
+/// In a column of another kind than texts one number stands for a cell, whatever the dictionary holds.
+pub fn law_one_number()
+    ensures { (column : Column) (texts others : List (List ℕ)) (y z : ℤ) (cell : List ℕ) → column.kind ≢ kind.Text → FitsSigned w64 y → FitsSigned w64 z
+        → StandsAs column texts y cell → StandsAs column others z cell → y ≡ z }
+{}
 
 /// What RFC 4180 says of a text, the reader of `csv` reads: the law that leads from the reader's machine to the grammar.
 pub fn law_read_by_grammar()

@@ -19,5 +19,5 @@ pub use cell::{read_cell, write_cell};
 pub use column::{Column, Empty, Kind};
 pub use dictionary::Dictionary;
 pub use encoding::{TextFault, append_line, encode_text};
-pub use laws::{law_read_by_grammar, through_numbers};
+pub use laws::{law_one_number, law_read_by_grammar, through_numbers};
 pub use row::{RowFault, read_row, write_row};

@@ -81,6 +81,9 @@ pub fn check_text(text: &[u8]) -> Result<(), Refusal>
     let mut state = State::Record;
     let mut opened = 0;
     for i in 0..text.len() {
+        if state.stays(text[i]) {
+            continue;
+        }
         let next = match state.next(text[i]) {
             Some(next) => next,
             None => {

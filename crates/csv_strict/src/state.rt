@@ -1,6 +1,6 @@
 //! Where in a record a byte comes.
 
-ghost use Rattle.std.specs.Prelude.{◌≡◌};
+ghost use Rattle.std.specs.Prelude.{◌≡◌, IsTrue, Some};
 ghost use Rattle.csv_strict.specs.Strict.{bare, ends_text, next_state, start};
 
 /// What was read of a record before a byte.
@@ -21,6 +21,7 @@ pub enum State {
 }
 
 /// The state after a byte of a field without quotes.
+#[inline(always)]
 fn after_bare(byte: u8) -> Option<State>
     ensures { result ≡ bare byte }
 {
@@ -38,6 +39,7 @@ fn after_bare(byte: u8) -> Option<State>
 }
 
 /// The state after the first byte of a field.
+#[inline(always)]
 fn after_start(byte: u8) -> Option<State>
     ensures { result ≡ start byte }
 {
@@ -49,7 +51,17 @@ fn after_start(byte: u8) -> Option<State>
 }
 
 impl State {
+    /// Whether a byte may come here and leaves the state as it is, as far as can be told quickly: the bytes above the comma are letters, digits, `-` and
+    /// others that mean nothing in a field.
+    #[inline(always)]
+    pub fn stays(self, byte: u8) -> bool
+        ensures { IsTrue result → next_state self byte ≡ Some self }
+    {
+        byte > b',' && (self == State::Bare || self == State::Quoted)
+    }
+
     /// The state after a byte, if the byte may come here.
+    #[inline(always)]
     pub fn next(self, byte: u8) -> Option<State>
         ensures { result ≡ next_state self byte }
     {

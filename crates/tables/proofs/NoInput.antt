@@ -1,48 +1,51 @@
 -- Files of which one is refused have no input text.
-use Rattle.std.proofs.Common.{◌≡◌, ◌≢◌, ◌+◌, ◌∷◌, ◌∙◌, ◌||◌, ℕ, ℤ, pos, negsuc, zero, suc, List, [], Bool, true, false, get_or, slice_get, Some, refl, sym, ap, subst, arith, inl, inr}
-use Rattle.std.specs.List.{list_any}
+use Rattle.std.proofs.Common.{◌≡◌, ◌≢◌, ◌+◌, ◌∷◌, ◌∙◌, ◌||◌, ◌<◌, ℕ, ℤ, pos, negsuc, zero, suc, List, [], Bool, true, false, get_or, length, map, slice_get, Some, refl, sym, ap, subst, arith, inl, inr}
+use Rattle.std.specs.List.{AllByRecursion, list_any}
 use Rattle.std.proofs.lemmas.Bool.{cases_Bool}
-use Rattle.csv_cells.specs.Cells.{Stands}
+use Rattle.csv_cells.specs.Cells.{Stands, plain}
 use Rattle.csv_cells.specs.Texts.{text_at}
 use Rattle.csv_cells.specs.declared.column.Column.{Column}
 use Rattle.csv_cells.specs.declared.column.Empty.{Empty}
 use Rattle.csv_cells.specs.declared.column.Empty.TheVariants.{Refused, Kept, Number}
 use Rattle.csv_cells.specs.declared.column.Kind.{Kind}
 use Rattle.csv_cells.specs.declared.column.Kind.TheVariants as kind
-use Rattle.schema.specs.Text.{AreColumnsText, AreTablesText, IsEmptyText, IsSchemaText}
+use Rattle.schema.specs.Schemas.{IsColumn, IsEmptyOf, IsEpochsOf, IsSchema, IsTable, said}
+use Rattle.schema.specs.declared.tables.Epochs.{Epochs}
+use Rattle.schema.specs.declared.tables.Epochs.TheVariants.{One, By, Every}
 use Rattle.schema.specs.declared.tables.Schema.{Schema}
 use Rattle.schema.specs.declared.tables.Table.{Table}
 use Rattle.tables.specs.Inputs.{AreJoined, IsEncodedFile, IsInput, IsRefusedFile, has_own}
 use Rattle.tables.specs.declared.refusal.Fault.{Fault}
-use Rattle.tables.specs.declared.refusal.Fault.TheVariants.{Order}
 use Rattle.tables.specs.declared.refusal.TableRefusal.TheVariants.{At}
-use Rattle.tables.proofs.NoLines.{AreReadable, no-lines}
+use Rattle.tables.proofs.NoLines.{AreReadable, HasOrder, no-lines}
 
 -- no text has a number in an empty dictionary
 no-text : (z : ℤ) (cell : List ℕ) → text_at [] z ≡ Some cell → ⊥
 no-text (pos n) cell e = cc e
 no-text (negsuc n) cell e = cc e
 
-empty-readable : (e : Empty) (k : Kind) (text : List ℕ) → IsEmptyText e k text → (n : ℤ) → k ≡ kind.Text → e ≢ Number n
-empty-readable Refused k text h n is same = cc same
-empty-readable Kept k text h n is same = cc same
-empty-readable (Number m) k text h n is same = no-text m h.0 (subst (λ (t : Kind). Stands t [] m h.0) is h.1.1)
+-- a right column is readable
+column-readable : (k : Kind) (e : Empty) → IsEmptyOf k e → (n : ℤ) → k ≡ kind.Text → e ≢ Number n
+column-readable k Refused h n is same = cc same
+column-readable k Kept h n is same = cc same
+column-readable k (Number m) h n is same = no-text m h.1.0 (subst (λ (t : Kind). Stands t [] m h.1.0) is h.1.1.1)
 
-columns-readable : (names : List (List ℕ)) (columns : List Column) (text : List ℕ) → AreColumnsText names columns text → AreReadable columns
-unfolding AreColumnsText
-columns-readable [] [] text h i below = absurd (omega arith)
-columns-readable [] (c ∷ columns) text h i below = absurd h
-columns-readable (n ∷ names) [] text h i below = absurd (omega arith)
-columns-readable (n ∷ names) (c ∷ columns) text h zero below = empty-readable c.empty c.kind h.2.0 h.2.1
-columns-readable (n ∷ names) (c ∷ columns) text h (suc i) below = columns-readable names columns h.1 h.3 i (omega (arith, below))
+columns-readable : (columns : List Column) → AllByRecursion IsColumn columns → AreReadable columns
+columns-readable [] h i below = absurd (omega arith)
+columns-readable (c ∷ columns) h zero below = column-readable c.kind c.empty h.0.1
+columns-readable (c ∷ columns) h (suc i) below = columns-readable columns h.1 i (omega (arith, below))
 
-tables-readable : (word : List ℕ) (tables : List Table) (text : List ℕ) (i : ℕ) (table : Table) → AreTablesText word tables text → slice_get tables i ≡ Some table → AreReadable table.columns.items
-unfolding AreTablesText
-tables-readable word [] text i table h at = cc at
-tables-readable word (t ∷ tables) text zero table h at =
-    let same : t ≡ table = cc at in
-    subst (λ (x : Table). AreReadable x.columns.items) same (columns-readable _ t.columns.items h.2.0 h.2.1)
-tables-readable word (t ∷ tables) text (suc i) table h at = tables-readable word tables h.1 i table h.3 at
+-- a table of a right schema is right
+right-table : (tables : List Table) (i : ℕ) (table : Table) → AllByRecursion IsTable (map said tables) → slice_get tables i ≡ Some table → IsTable (said table)
+right-table [] i table h at = cc at
+right-table (t ∷ tables) zero table h at = let same : t ≡ table = cc at in subst (λ (x : Table). IsTable (said x)) same h.0
+right-table (t ∷ tables) (suc i) table h at = right-table tables i table h.1 at
+
+-- its epochs have an order
+has-order : (columns : List Column) (epochs : Epochs) → IsEpochsOf columns epochs → HasOrder columns epochs
+has-order columns One h place is = cc is
+has-order columns Every h place is = cc is
+has-order columns (By p) h place is = let same : p ≡ place = cc is in subst (λ (k : ℕ). (k < length columns) × ((get_or columns k plain).kind ≢ kind.Text)) same h
 
 -- each table of those that are joined has its lines
 joined-at : (own : Bool) (shared : List ℕ) (files texts : List (List ℕ)) (place i at : ℕ) (tables : List Table) (table : Table) (lines : List ℕ) → at ≡ place + i
@@ -72,24 +75,26 @@ one-own (t ∷ tables) zero table here is =
 one-own (t ∷ tables) (suc i) table here is = either (has_own t.epochs) (list_any (λ (t : Table). has_own t.epochs) tables) (one-own tables i table here is)
 
 found : (own : Bool) (shared : List ℕ) (files texts others : List (List ℕ)) (tables : List Table) (lines : List ℕ) (file : ℕ) (table : Table) (fault : Fault) (line : ℕ) → AreReadable table.columns.items
-    → ((i : ℕ) → fault ≢ Order i) → slice_get tables file ≡ Some table → IsRefusedFile table (get_or files file []) texts (At fault line)
+    → HasOrder table.columns.items table.epochs → slice_get tables file ≡ Some table → IsRefusedFile table (get_or files file []) texts (At fault line)
     → AreJoined own shared files others 0 tables lines → has_own table.epochs ≡ own → ⊥
-found own shared files texts others tables lines file table fault line ok late here refused joined is =
+found own shared files texts others tables lines file table fault line ok order here refused joined is =
     let at = joined-at own shared files others 0 file file tables table lines (omega arith) joined here is in
-    no-lines table shared (get_or files file []) texts others at.0 fault line ok late refused at.1
+    no-lines table shared (get_or files file []) texts others at.0 fault line ok order refused at.1
 
 true-false : (b : Bool) → b ≡ true → b ≡ false → ⊥
 true-false b e f = let g : true ≡ false = sym e ∙ f in cc g
 
-pub no-input : (schema : Schema) (text : List ℕ) (files texts others : List (List ℕ)) (out : List ℕ) (file : ℕ) (table : Table) (fault : Fault) (line : ℕ) → IsSchemaText schema text
-    → ((i : ℕ) → fault ≢ Order i) → slice_get schema.inputs.items file ≡ Some table → IsRefusedFile table (get_or files file []) texts (At fault line) → IsInput schema files others out → ⊥
-no-input schema text files texts others out file table fault line read late here refused (shared, joined, outs) =
+pub no-input : (schema : Schema) (files texts others : List (List ℕ)) (out : List ℕ) (file : ℕ) (table : Table) (fault : Fault) (line : ℕ) → IsSchema schema
+    → slice_get schema.inputs.items file ≡ Some table → IsRefusedFile table (get_or files file []) texts (At fault line) → IsInput schema files others out → ⊥
+no-input schema files texts others out file table fault line right here refused (shared, joined, outs) =
     let tables : List Table = schema.inputs.items in
-    let ok = tables-readable _ tables read.0 file table read.2 here in
+    let is = right-table tables file table right.inputs.0 here in
+    let ok = columns-readable table.columns.items is.columns in
+    let order = has-order table.columns.items table.epochs is.epochs in
     elim (cases_Bool (has_own table.epochs)) [
       | inl own ↦ elim outs [
-        | inl some ↦ found true shared files texts others tables out file table fault line ok late here refused some.1 own
+        | inl some ↦ found true shared files texts others tables out file table fault line ok order here refused some.1 own
         | inr none ↦ true-false _ (one-own tables file table here own) none.0
       ]
-      | inr not_own ↦ found false [] files texts others tables shared file table fault line ok late here refused joined not_own
+      | inr not_own ↦ found false [] files texts others tables shared file table fault line ok order here refused joined not_own
     ]

@@ -3,10 +3,9 @@
 ghost use Rattle.schema.specs.declared.tables.Constant.{Constant};
 ghost use Rattle.schema.specs.declared.tables.Schema.{Schema};
 ghost use Rattle.schema.specs.declared.tables.Table.{Table};
-ghost use Rattle.schema.specs.Text.{IsSchemaText};
+ghost use Rattle.schema.specs.Schemas.{IsSchema};
 ghost use Rattle.tables.specs.declared.refusal.Fault.{Fault};
-ghost use Rattle.tables.specs.declared.refusal.Fault.TheVariants.{Order};
-ghost use Rattle.std.specs.Prelude.{◌≡◌, ◌≢◌, ◌++◌, ◌∷◌, [], IfErr, IfOk, List, OnOk, Some, codes, get_or, slice_get, map, ℕ};
+ghost use Rattle.std.specs.Prelude.{◌≡◌, ◌++◌, ◌∷◌, [], IfErr, IfOk, List, OnOk, Some, codes, get_or, slice_get, map, ℕ};
 ghost use Rattle.std.specs.List.{list_any};
 ghost use Rattle.csv.specs.Reading.{strip_bom};
 ghost use Rattle.csv_cells.specs.Texts.{Grows, texts_of};
@@ -210,10 +209,10 @@ pub fn encode(
     }
 }
 
-/// Of files that are refused, but for a record that is late, there is no input text by any dictionary, if the schema has a text.
+/// Of files of which one is refused there is no input text by any dictionary, if the schema is right.
 pub fn law_refused_input()
-    ensures { (schema : Schema) (text : List ℕ) (files texts others : List (List ℕ)) (out : List ℕ) (file : ℕ) (table : Table) (fault : Fault) (line : ℕ) → IsSchemaText schema text
-        → ((place : ℕ) → fault ≢ Order place) → slice_get schema.inputs.items file ≡ Some table → IsRefusedFile table (get_or files file []) texts (refusal.At fault line) → ¬ IsInput schema files others out }
+    ensures { (schema : Schema) (files texts others : List (List ℕ)) (out : List ℕ) (file : ℕ) (table : Table) (fault : Fault) (line : ℕ) → IsSchema schema
+        → slice_get schema.inputs.items file ≡ Some table → IsRefusedFile table (get_or files file []) texts (refusal.At fault line) → ¬ IsInput schema files others out }
 {}
 
 /// In a new dictionary a constant's number is its place among the constants, if their texts differ.
