@@ -109,7 +109,7 @@ amount-long places n text e =
     omega (arith, whole, length-amount places n)
 
 -- where the point stands
-amount-end : (places n end tail : ℕ) (text : List ℕ) → amount_text places n ≡ text → tail ≡ places → end ≡ length text - (tail + 1) → end ≡ length (decimal (n / 10 ^ places))
+pub amount-end : (places n end tail : ℕ) (text : List ℕ) → amount_text places n ≡ text → tail ≡ places → end ≡ length text - (tail + 1) → end ≡ length (decimal (n / 10 ^ places))
 amount-end places n end tail text e is_tail is_end =
     let whole : length (amount_text places n) ≡ length text = ap length e in
     omega (arith, whole, length-amount places n, is_tail, is_end)
@@ -143,6 +143,14 @@ minus-parts places (pos n) amount fits e =
 minus-parts places (negsuc n) amount fits e =
     let same : amount_text places (suc n) ≡ amount = cc e in
     (suc n, omega (arith, fits_mag (negsuc n) fits), same, refl)
+
+-- and that number isn't 0
+pub minus-some : (places : ℕ) (z : ℤ) (amount : List ℕ) (fits : FitsSigned w64 z) (e : decimal_text places z ≡ 45 ∷ amount) → 0 < (minus-parts places z amount fits e).0
+unfolding minus-parts
+minus-some places (pos n) amount fits e =
+    let small : n / 10 ^ places < 2 ^ 64 = omega (arith, fits_mag (pos n) fits, div-le_self n (10 ^ places)) in
+    absurd (no-minus (decimal (n / 10 ^ places)) (46 ∷ digits_text places n) amount (may_begin (decimal (n / 10 ^ places)) (n / 10 ^ places) small refl) e)
+minus-some places (negsuc n) amount fits e = let some : 0 < suc n = omega arith in some
 
 pub match-some : {T : Type 0} (o : Option T) (P : Type 0) (Q : T → Type 0) → MatchOption o P Q → IfSome o Q
 match-some None P Q m = tt

@@ -1,9 +1,8 @@
 -- Digits and dates.
-use Rattle.std.proofs.Common.{◌≡◌, ◌+◌, ◌/◌, ◌%◌, ◌++◌, ◌∷◌, ℕ, ℤ, suc, Bool, true, List, [], Option, Some, None, false, refl, sym, ◌∙◌, subst, ap}
+use Rattle.std.proofs.Common.{◌≡◌, ◌+◌, ◌/◌, ◌%◌, ◌++◌, ◌∷◌, ℕ, ℤ, suc, Bool, true, List, [], Option, Some, None, false, refl, sym, ◌∙◌, subst}
 use Rattle.jiff_core.specs.declared.civil.date.Date as civil
 use Rattle.jiff_core.specs.Date.{epoch_day}
 use Rattle.csv_cells.specs.Numbers.{IsDateText, Writes, WritesDate, date_text, digits_text}
-use Rattle.csv_cells.proofs.Rows.{date-once}
 use Rattle.csv_cells.specs.Cells.{WritesKind}
 use Rattle.csv_cells.specs.declared.column.Kind.TheVariants.{Date}
 use Rattle.jiff_core.specs.Calendar.{IsEpochDay}
@@ -35,20 +34,3 @@ day_in z text is = subst IsEpochDay is.numbered (epoch_day_range is.date)
 pub date_kind : (texts : List (List ℕ)) (z : ℤ) (old new : List ℕ) (wrote : Bool) → WritesDate z old new wrote → WritesKind Date texts z old new wrote
 date_kind texts z old new true w = w
 date_kind texts z old new false w = w
-
--- what was written of a day, or of none, and what a text is
-pub date_none : (z y : ℤ) (old new text : List ℕ) (wrote : Bool) → WritesDate y old new wrote → wrote ≡ false → y ≡ z → IsDateText z text → ⊥
-date_none z y old new text true w f e is = cc f
-date_none z y old new text false w f e is = w text (rw e is)
-
-pub date_found : (y : ℤ) (old new text : List ℕ) (wrote : Bool) → WritesDate y old new wrote → wrote ≡ true → old ≡ [] → new ≡ text → IsDateText y text
-date_found y old new text true w t o e =
-    let same : w.0 ≡ text = ap (λ (x : List ℕ). x ++ w.0) (sym o) ∙ sym w.2 ∙ e in
-    subst (IsDateText y) same w.1
-date_found y old new text false w t o e = cc t
-
-pub date_again : (z y : ℤ) (old new text : List ℕ) (wrote : Bool) → WritesDate y old new wrote → wrote ≡ true → old ≡ [] → y ≡ z → IsDateText z text → new ≡ text
-date_again z y old new text true w t o e is =
-    let same : w.0 ≡ text = date-once z w.0 text (subst (λ (x : ℤ). IsDateText x w.0) e w.1) is in
-    w.2 ∙ ap (λ (x : List ℕ). x ++ w.0) o ∙ same
-date_again z y old new text false w t o e is = cc t

@@ -4,3 +4,4 @@ mod LastDigits
 mod Joined
 mod Places
 pub mod OneNumber
+mod Spelled

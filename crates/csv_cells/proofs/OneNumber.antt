@@ -1,11 +1,10 @@
 -- A cell has one number, but for the places of texts.
-use Rattle.std.proofs.Common.{◌≡◌, ◌≢◌, ◌<◌, ◌/◌, ◌%◌, ◌^◌, ◌+◌, ◌-◌, ◌++◌, ◌∷◌, ◌∙◌, ℕ, ℤ, pos, negsuc, suc, neg_ℤ, List, length, take, drop, decimal, Some, FitsSigned, w64, refl, sym, ap, arith, inl, inr}
+use Rattle.std.proofs.Common.{◌≡◌, ◌≢◌, ◌<◌, ◌/◌, ◌^◌, ◌+◌, ◌-◌, ◌∷◌, ◌∙◌, ℕ, ℤ, pos, negsuc, suc, neg_ℤ, List, length, take, drop, Some, FitsSigned, w64, refl, sym, ap, arith, inl, inr}
 use Rattle.std.proofs.lemmas.Fmt.{decimal_injective, signed_decimal_injective}
 use Rattle.std.proofs.Math.Nat.{div-le_self}
 use Rattle.decimal.proofs.Numbers.{fits_mag}
-use Rattle.jiff_core.specs.Date.{epoch_day}
 use Rattle.csv_cells.specs.Cells.{Stands, StandsWith}
-use Rattle.csv_cells.specs.Numbers.{IsDateText, amount_text, clock_text, decimal_text, digits_text, joined, time_text}
+use Rattle.csv_cells.specs.Numbers.{IsDateText, amount_text, decimal_text, digits_text, joined, time_text}
 use Rattle.csv_cells.specs.declared.column.Column.{Column}
 use Rattle.csv_cells.specs.declared.column.Empty.{Empty}
 use Rattle.csv_cells.specs.declared.column.Empty.TheVariants.{Refused, Kept, Number}

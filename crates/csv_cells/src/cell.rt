@@ -1,73 +1,16 @@
 //! The number of a cell, and the cell of a number.
 
-ghost use Rattle.std.specs.Prelude.{◌≡◌, true, ℤ, FitsSigned, IfNone, IfOk, IfSome, OnOk, Some};
+ghost use Rattle.std.specs.Prelude.{◌≡◌, ℤ, FitsSigned, IfNone, IfOk, IfSome, OnOk, Some};
 ghost use Rattle.std.specs.Int.{w64};
 ghost use Rattle.csv_cells.specs.Cells.{IsNoCell, IsNumbered, IsOnly, Stands, WritesCell, WritesKind, StandsAs};
-ghost use Rattle.csv_cells.specs.Numbers.{IsDateText, decimal_text, time_text};
 ghost use Rattle.csv_cells.specs.Texts.{Grows, texts_of};
 
 use crate::column::{Column, Empty, Kind};
 use crate::dictionary::Dictionary;
 use crate::digits::{push_date, push_decimal, push_time};
-use crate::numbers::{day_of, parts_of, seconds_of};
-use decimal::signed_number;
+use crate::numbers::{day_of, int_of, parts_of, seconds_of};
 use itoa::Buffer;
 use std::alloc::{AllocError, Global};
-
-/// The seconds of a time of day: what is written as this very text.
-fn read_time(text: &[u8], scratch: &mut Vec<u8>) -> Result<Option<i64>, AllocError>
-    ensures found { IfOk result (λ o. IfSome o (λ z. time_text z ≡ Some text.now)) }
-    ensures only { IfOk result (λ o. (z : ℤ) → time_text z ≡ Some text.now → o ≡ Some z) }
-{
-    let Some(z) = seconds_of(text) else {
-        return Ok(None);
-    };
-    scratch.clear();
-    if !push_time(scratch, z)? {
-        return Ok(None);
-    }
-    if scratch.as_slice() == text {
-        Ok(Some(z))
-    } else {
-        Ok(None)
-    }
-}
-
-/// The parts of a number with digits after the point: what is written as this very text.
-fn read_decimal(places: u8, text: &[u8], scratch: &mut Vec<u8>) -> Result<Option<i64>, AllocError>
-    ensures found { IfOk result (λ o. IfSome o (λ z. decimal_text places z ≡ text.now)) }
-    ensures only { IfOk result (λ o. (z : ℤ) → FitsSigned w64 z → decimal_text places z ≡ text.now → o ≡ Some z) }
-{
-    let Some(z) = parts_of(places, text) else {
-        return Ok(None);
-    };
-    scratch.clear();
-    push_decimal(scratch, places, z)?;
-    if scratch.as_slice() == text {
-        Ok(Some(z))
-    } else {
-        Ok(None)
-    }
-}
-
-/// The number of a day: what is written as this very text.
-fn read_date(text: &[u8], scratch: &mut Vec<u8>) -> Result<Option<i64>, AllocError>
-    ensures found { IfOk result (λ o. IfSome o (λ z. IsDateText z text.now)) }
-    ensures only { IfOk result (λ o. (z : ℤ) → IsDateText z text.now → o ≡ Some z) }
-{
-    let Some(z) = day_of(text) else {
-        return Ok(None);
-    };
-    scratch.clear();
-    if !push_date(scratch, z)? {
-        return Ok(None);
-    }
-    if scratch.as_slice() == text {
-        Ok(Some(z))
-    } else {
-        Ok(None)
-    }
-}
 
 /// The number that stands for a text in a column of that kind.
 fn read_kind(
@@ -75,7 +18,6 @@ fn read_kind(
     kind: Kind,
     dictionary: &mut Dictionary,
     text: &[u8],
-    scratch: &mut Vec<u8>,
 ) -> Result<Option<i64>, AllocError>
     ensures found { IfOk result (λ o. IfSome o (λ z. Stands kind (texts_of dictionary.new) z text.now)) }
     ensures only { IfOk result (λ o. (z : ℤ) → FitsSigned w64 z → Stands kind (texts_of dictionary.new) z text.now → o ≡ Some z) }
@@ -83,13 +25,13 @@ fn read_kind(
     ensures grows { OnOk result (Grows (texts_of dictionary.old) (texts_of dictionary.new)) }
 {
     match kind {
-        Kind::Int => match signed_number(text) {
+        Kind::Int => match int_of(text) {
             Some(z) => Ok(Some(z)),
             None => Ok(None),
         },
-        Kind::Decimal(places) => read_decimal(places, text, scratch),
-        Kind::Date => read_date(text, scratch),
-        Kind::Time => read_time(text, scratch),
+        Kind::Decimal(places) => Ok(parts_of(places, text)),
+        Kind::Date => Ok(day_of(text)),
+        Kind::Time => Ok(seconds_of(text)),
         Kind::Text => Ok(Some(dictionary.number(alloc, text)?)),
     }
 }
@@ -125,13 +67,12 @@ fn write_kind(
     }
 }
 
-/// The number that stands for a cell, `None` if the column has none for it. A new text goes to the end of the dictionary. `scratch` is overwritten.
+/// The number that stands for a cell, `None` if the column has none for it. A new text goes to the end of the dictionary.
 pub fn read_cell(
     alloc: Global,
     column: Column,
     dictionary: &mut Dictionary,
     cell: &[u8],
-    scratch: &mut Vec<u8>,
 ) -> Result<Option<i64>, AllocError>
     ensures found { IfOk result (λ o. IfSome o (λ z. StandsAs column (texts_of dictionary.new) z cell.now)) }
     ensures only { IfOk result (IsOnly column (texts_of dictionary.new) cell.now) }
@@ -142,13 +83,13 @@ pub fn read_cell(
         Empty::Refused if cell.is_empty() => Ok(None),
         Empty::Number(number) if cell.is_empty() => Ok(Some(number)),
         Empty::Number(number) => {
-            let found = read_kind(alloc, column.kind, dictionary, cell, scratch)?;
+            let found = read_kind(alloc, column.kind, dictionary, cell)?;
             match found {
                 Some(z) if z != number => Ok(Some(z)),
                 _ => Ok(None),
             }
         }
-        Empty::Refused | Empty::Kept => read_kind(alloc, column.kind, dictionary, cell, scratch),
+        Empty::Refused | Empty::Kept => read_kind(alloc, column.kind, dictionary, cell),
     }
 }
 

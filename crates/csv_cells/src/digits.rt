@@ -8,7 +8,7 @@ use jiff_core::civil::Date;
 use std::alloc::AllocError;
 
 /// A digit.
-fn digit(n: u64) -> u8
+pub fn digit(n: u64) -> u8
     requires { n < 10 }
     ensures { result ≡ 48 + n }
 {
@@ -55,7 +55,7 @@ pub fn push_time(out: &mut Vec<u8>, z: i64) -> Result<bool, AllocError>
 }
 
 /// The wholes of an amount.
-fn whole_of(places: u8, parts: u64) -> u64
+pub fn whole_of(places: u8, parts: u64) -> u64
     ensures { result ≡ parts / 10 ^ places }
 {
     match 10u64.checked_pow(u32::from(places)) {

@@ -55,14 +55,13 @@ pub fn encode_text(
         .from_reader(alloc, text);
     let mut out = Vec::new(alloc);
     let mut numbers = Vec::new(alloc);
-    let mut scratch = Vec::new(alloc);
     let mut count = 0u64;
     for row in reader.into_byte_records() {
         let row = match row {
             Ok(row) => row,
             Err(error) => return Err(TextFault::Csv(error)),
         };
-        match read_row(alloc, columns, dictionary, &row, &mut numbers, &mut scratch) {
+        match read_row(alloc, columns, dictionary, &row, &mut numbers) {
             Ok(()) => {}
             Err(fault) => return Err(TextFault::Row(count, fault)),
         }

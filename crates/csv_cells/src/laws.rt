@@ -25,8 +25,7 @@ pub fn through_numbers(
     ensures { IfOk result (λ o. IfSome o (λ v. map (λ w. w.items) v.items ≡ fields_of row.now)) }
 {
     let mut numbers = Vec::new(alloc);
-    let mut scratch = Vec::new(alloc);
-    read_row(alloc, columns, dictionary, row, &mut numbers, &mut scratch)?;
+    read_row(alloc, columns, dictionary, row, &mut numbers)?;
     let written = write_row(alloc, columns, dictionary, numbers.as_slice())?;
     Ok(written)
 }

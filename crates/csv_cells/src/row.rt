@@ -40,14 +40,13 @@ impl From<AllocError> for RowFault {
     }
 }
 
-/// Puts the numbers of a record in place of those in `numbers`. New texts go to the end of the dictionary. `scratch` is overwritten.
+/// Puts the numbers of a record in place of those in `numbers`. New texts go to the end of the dictionary.
 pub fn read_row(
     alloc: Global,
     columns: &[Column],
     dictionary: &mut Dictionary,
     row: &ByteRecord,
     numbers: &mut Vec<i64>,
-    scratch: &mut Vec<u8>,
 ) -> Result<(), RowFault>
     ensures spelled { OnOk result (Spells columns.now (texts_of dictionary.new) (fields_of row.now) numbers.new.items) }
     ensures refused { IfErr result (λ fault. IsRefusedRow columns.now (texts_of dictionary.new) (fields_of row.now) fault) }
@@ -63,7 +62,7 @@ pub fn read_row(
         let Some(cell) = row.get(i) else {
             return Err(RowFault::Length);
         };
-        let Some(z) = read_cell(alloc, column, dictionary, cell, scratch)? else {
+        let Some(z) = read_cell(alloc, column, dictionary, cell)? else {
             return Err(RowFault::Cell(i));
         };
         numbers.push(z)?;

@@ -137,8 +137,7 @@ fn number_of(alloc: Global, kind: Kind, value: &[u8]) -> Result<Option<i64>, All
         empty: Empty::Refused,
     };
     let mut none = Dictionary::new(alloc);
-    let mut scratch = Vec::new(alloc);
-    read_cell(alloc, column, &mut none, value, &mut scratch)
+    read_cell(alloc, column, &mut none, value)
 }
 
 /// What an empty cell is that stands for this value.

@@ -10,6 +10,7 @@ ghost use Rattle.csv_cells.specs.Encoded.{line_text};
 
 use crate::header::under_header;
 use crate::refusal::{Fault, RecordFault, RowRefusal, fault_of_row};
+use csv::ByteRecord;
 use csv_cells::{Column, Dictionary, append_line, read_row};
 use schema::Epochs;
 use std::alloc::{AllocError, Global};
@@ -119,21 +120,21 @@ pub fn encode_rows(
     ensures refused { IfErr result (λ r. AreRefused (map (λ v. v.items) names.now) columns.now target.entry.epochs text.now (texts_of dictionary.new) r.fault) }
     ensures grows { OnOk result (Grows (texts_of dictionary.old) (texts_of dictionary.new)) }
 {
-    let reader = match under_header(alloc, text, names) {
+    let mut reader = match under_header(alloc, text, names) {
         Ok(reader) => reader,
         Err(fault) => return Err(RowRefusal { count: 0, fault }),
     };
-    let mut out = Vec::new(alloc);
+    let mut row = ByteRecord::new(alloc);
     let mut numbers = Vec::new(alloc);
-    let mut scratch = Vec::new(alloc);
+    let mut out = Vec::new(alloc);
     let mut last = None;
-    let mut count = 1u64;
-    for row in reader.into_byte_records() {
-        let row = match row {
-            Ok(row) => row,
+    for count in 1..u64::MAX {
+        match reader.read_byte_record(&mut row) {
+            Ok(true) => {}
+            Ok(false) => return Ok(out),
             Err(_) => return Err(no_memory(count)),
-        };
-        match read_row(alloc, columns, dictionary, &row, &mut numbers, &mut scratch) {
+        }
+        match read_row(alloc, columns, dictionary, &row, &mut numbers) {
             Ok(()) => {}
             Err(fault) => {
                 let fault = fault_of_row(fault);
@@ -149,7 +150,6 @@ pub fn encode_rows(
             return Err(no_memory(count));
         }
         last = epoch;
-        count = count.saturating_add(1);
     }
-    Ok(out)
+    Err(no_memory(u64::MAX))
 }

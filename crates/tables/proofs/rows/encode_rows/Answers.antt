@@ -1,6 +1,6 @@
-use Rattle.std.proofs.Common.{Bor, None, true, false, ◌≡◌, ℕ, List, [], ◌∷◌, ◌++◌, Some, sym, ◌∙◌, ap, refl, inl, map}
+use Rattle.std.proofs.Common.{Bor, Bool, subst, None, true, false, ◌≡◌, ℕ, List, [], ◌∷◌, ◌++◌, Some, sym, ◌∙◌, ap, inl, map}
 use Rattle.std.proofs.lemmas.List.{append-nil}
-use Rattle.csv.specs.Reading.{default_config, strip_bom}
+use Rattle.csv.specs.Reading.{ReadRecord, default_config, strip_bom}
 use Rattle.csv.specs.Records.{fields_of}
 use Rattle.csv.specs.declared.parser.State.TheVariants as st
 use Rattle.csv.proofs.ReadFacts.{rows-end, rows-more, on-ok}
@@ -13,16 +13,12 @@ use Rattle.tables.proofs.Faulty.{all-kept, header-refused, late-refused, row-sto
 use Rattle.csv_cells.proofs.Rows.{all-push, grown-twice, none-spelled}
 use Rattle.tables.proofs.rows.encode_rows.Goals as goal
 
-pub loop-row-init : goal.loop-row-init
-loop-row-init c =
+pub loop-count-init : goal.loop-count-init
+loop-count-init c =
     let after : IsAfterHeader (map (λ v. v.items) c.args.names.now) c.args.text.now c.in-Ok.reader = rw c.in-Ok.is at c.under_header.ensures.found in
-    let start = c.into_iter-row-iterator.ensures.into_iter_gives ∙ refl in
-    let rdr = c.into_byte_records-row-items.ensures.rdr in
-    let left = c.into_byte_records-row-items.ensures.left in
-    rw (start, rdr, c.new-out.ensures.items) (record {
+    rw c.new-out.ensures.items (record {
       trim = after.trim;
       ready = after.ready;
-      left = left;
       config = after.config;
       rest = after.rest;
       source = after.source;
@@ -36,46 +32,46 @@ loop-row-init c =
       latest = no-epoch c.args.target None;
     })
 
-pub loop-row-preserved : goal.loop-row-preserved
-loop-row-preserved c =
-    let inv = c.loop-row.invariant in
-    let s = rw (c.in-Some.is, c.in-Ok-row.is) at ((c.next.ensures.steps inv.left inv.trim).0 inv.ready) in
-    let m = rows-more (λ (s : Bor (List ℕ)). Some s.now) c.loop-row.row-iterator.rdr c.next.new.self.rdr (fields_of c.in-Ok-row.row) default_config st.StartRecord (strip_bom c.args.text.now) inv.rest (map (λ v. v.items) c.args.names.now ∷ inv.rows) inv.config inv.source inv.reached s.0 in
-    let says : Spells c.args.columns.now (texts_of c.read_row.new.dictionary) (fields_of c.in-Ok-row.row) c.read_row.new.numbers.items = rw c.in-Ok-read_row.is at c.read_row.ensures.spelled in
-    let grows : Grows (texts_of c.loop-row.dictionary) (texts_of c.read_row.new.dictionary) = rw c.in-Ok-read_row.is at c.read_row.ensures.grows in
+pub loop-count-preserved : goal.loop-count-preserved
+loop-count-preserved c =
+    let inv = c.loop-count.invariant in
+    let cells : List (List ℕ) = fields_of c.read_byte_record.new.row in
+    let read = subst (λ (found : Bool). ReadRecord (λ (s : Bor (List ℕ)). Some s.now) c.loop-count.reader c.read_byte_record.new.self found cells) c.in-Ok-true.field-0-test (c.in-Ok-true.ensures.reads inv.trim inv.ready) in
+    let m = rows-more (λ (s : Bor (List ℕ)). Some s.now) c.loop-count.reader c.read_byte_record.new.self cells default_config st.StartRecord (strip_bom c.args.text.now) inv.rest (map (λ v. v.items) c.args.names.now ∷ inv.rows) inv.config inv.source inv.reached read in
+    let says : Spells c.args.columns.now (texts_of c.read_row.new.dictionary) cells c.read_row.new.numbers.items = rw c.in-Ok-read_row.is at c.read_row.ensures.spelled in
+    let grows : Grows (texts_of c.loop-count.dictionary) (texts_of c.read_row.new.dictionary) = rw c.in-Ok-read_row.is at c.read_row.ensures.grows in
     let target = c.args.target in
     let zs = c.read_row.new.numbers.items in
     let epoch : c.epoch_value-epoch.result ≡ epoch_of target.epochs zs = c.epoch_value-epoch.ensures ∙ ap (λ x. epoch_of target.epochs x) c.as_slice.ensures.value in
-    let on_time : IsLate c.loop-row.last c.epoch_value-epoch.result → ⊥ = λ late. let e : true ≡ false = sym (c.is_late.ensures.1 late) ∙ c.if-is_late.false in cc e in
-    let line : c.append_row.new.out.items ≡ c.loop-row.out.items ++ row_text target c.loop-row.last c.as_slice-in-loop-row.result.now = on-ok c.append_row.result (sym c.is_err.ensures.value ∙ c.if-is_err.false) c.append_row.ensures in
-    let all = all-push c.args.columns.now (texts_of c.loop-row.dictionary) grows.0 inv.rows inv.all (fields_of c.in-Ok-row.row) c.read_row.new.numbers.items inv.spelled (rw grows.1 at says) in
+    let on_time : IsLate c.loop-count.last c.epoch_value-epoch.result → ⊥ = λ late. let e : true ≡ false = sym (c.is_late.ensures.1 late) ∙ c.if-is_late.false in cc e in
+    let line : c.append_row.new.out.items ≡ c.loop-count.out.items ++ row_text target c.loop-count.last c.as_slice-in-loop-count.result.now = on-ok c.append_row.result (sym c.is_err.ensures.value ∙ c.if-is_err.false) c.append_row.ensures in
+    let all = all-push c.args.columns.now (texts_of c.loop-count.dictionary) grows.0 inv.rows inv.all cells zs inv.spelled (rw grows.1 at says) in
     record {
-      trim = s.0.3 ∙ inv.trim;
-      ready = inl s.1;
-      left = s.2;
-      config = s.0.2 ∙ inv.config;
+      trim = read.3 ∙ inv.trim;
+      ready = inl (c.in-Ok-true.ensures.ready inv.trim);
+      config = read.2 ∙ inv.config;
       rest = m.0;
       source = m.1;
-      rows = inv.rows ++ fields_of c.in-Ok-row.row ∷ [];
+      rows = inv.rows ++ cells ∷ [];
       reached = m.2;
-      all = inv.all ++ c.read_row.new.numbers.items ∷ [];
+      all = inv.all ++ zs ∷ [];
       spelled = rw grows.1 all;
-      ordered = order-push target None inv.all zs inv.ordered (λ late. on_time (now-late c.loop-row.last _ c.epoch_value-epoch.result _ inv.latest epoch late));
+      ordered = order-push target None inv.all zs inv.ordered (λ late. on_time (now-late c.loop-count.last _ c.epoch_value-epoch.result _ inv.latest epoch late));
       grown = grown-twice _ _ _ inv.grown grows;
-      written = line ∙ ap (λ x. c.loop-row.out.items ++ row_text target c.loop-row.last x) c.as_slice-in-loop-row.ensures.value ∙ ap (λ x. x ++ row_text target c.loop-row.last zs) inv.written
+      written = line ∙ ap (λ x. c.loop-count.out.items ++ row_text target c.loop-count.last x) c.as_slice-in-loop-count.ensures.value ∙ ap (λ x. x ++ row_text target c.loop-count.last zs) inv.written
           ∙ ap (λ x. rows_text target None inv.all ++ row_text target x zs) inv.latest ∙ sym (rows-push target None inv.all zs);
       latest = epoch ∙ sym (last-push target None inv.all zs);
     }
 
-pub returns-clause-encoded : goal.returns-clause-encoded
-returns-clause-encoded c =
-    let inv = c.loop-row.invariant in
-    let rdr = c.loop-row.row-iterator.rdr in
-    let s = rw c.in-None.is at ((c.next.ensures.steps inv.left inv.trim).0 inv.ready) in
+pub returns-in-Ok-false-clause-encoded : goal.returns-in-Ok-false-clause-encoded
+returns-in-Ok-false-clause-encoded c =
+    let inv = c.loop-count.invariant in
+    let cells : List (List ℕ) = fields_of c.read_byte_record.new.row in
+    let read = subst (λ (found : Bool). ReadRecord (λ (s : Bor (List ℕ)). Some s.now) c.loop-count.reader c.read_byte_record.new.self found cells) c.in-Ok-false.field-0-test (c.in-Ok-false.ensures.reads inv.trim inv.ready) in
     record {
       rows = inv.rows;
       numbers = inv.all;
-      read = (rdr.state, inv.rest, inv.reached, rows-end (λ (s : Bor (List ℕ)). Some s.now) rdr c.next.new.self.rdr [] default_config inv.rest inv.config inv.source s);
+      read = (c.loop-count.reader.state, inv.rest, inv.reached, rows-end (λ (s : Bor (List ℕ)). Some s.now) c.loop-count.reader c.read_byte_record.new.self cells default_config inv.rest inv.config inv.source read);
       spelled = inv.spelled;
       ordered = inv.ordered;
       written = inv.written;
@@ -87,26 +83,26 @@ returns-in-Err-clause-refused c =
 
 pub returns-in-Err-read_row-clause-refused : goal.returns-in-Err-read_row-clause-refused
 returns-in-Err-read_row-clause-refused c =
-    let inv = c.loop-row.invariant in
-    let cells : List (List ℕ) = fields_of c.in-Ok-row.row in
-    let s = rw (c.in-Some.is, c.in-Ok-row.is) at ((c.next.ensures.steps inv.left inv.trim).0 inv.ready) in
-    let m = rows-more (λ (s : Bor (List ℕ)). Some s.now) c.loop-row.row-iterator.rdr c.next.new.self.rdr cells default_config st.StartRecord (strip_bom c.args.text.now) inv.rest (map (λ v. v.items) c.args.names.now ∷ inv.rows) inv.config inv.source inv.reached s.0 in
-    row-stops (map (λ v. v.items) c.args.names.now) c.args.columns.now c.args.target.epochs c.args.text.now (texts_of c.loop-row.dictionary) (texts_of c.read_row.new.dictionary) inv.rows inv.all cells
-    (c.next.new.self.rdr.state, m.0, m.2) inv.spelled inv.ordered c.in-Err-read_row.fault c.fault_of_row-fault.result c.fault_of_row-fault.ensures c.in-Err-read_row.ensures.refused c.in-Err-read_row.ensures.kept
+    let inv = c.loop-count.invariant in
+    let cells : List (List ℕ) = fields_of c.read_byte_record.new.row in
+    let read = subst (λ (found : Bool). ReadRecord (λ (s : Bor (List ℕ)). Some s.now) c.loop-count.reader c.read_byte_record.new.self found cells) c.in-Ok-true.field-0-test (c.in-Ok-true.ensures.reads inv.trim inv.ready) in
+    let m = rows-more (λ (s : Bor (List ℕ)). Some s.now) c.loop-count.reader c.read_byte_record.new.self cells default_config st.StartRecord (strip_bom c.args.text.now) inv.rest (map (λ v. v.items) c.args.names.now ∷ inv.rows) inv.config inv.source inv.reached read in
+    row-stops (map (λ v. v.items) c.args.names.now) c.args.columns.now c.args.target.epochs c.args.text.now (texts_of c.loop-count.dictionary) (texts_of c.read_row.new.dictionary) inv.rows inv.all cells
+    (c.read_byte_record.new.self.state, m.0, m.2) inv.spelled inv.ordered c.in-Err-read_row.fault c.fault_of_row-fault.result c.fault_of_row-fault.ensures c.in-Err-read_row.ensures.refused c.in-Err-read_row.ensures.kept
 
 pub returns-then-is_late-clause-refused : goal.returns-then-is_late-clause-refused
 returns-then-is_late-clause-refused c =
-    let inv = c.loop-row.invariant in
-    let cells : List (List ℕ) = fields_of c.in-Ok-row.row in
-    let s = rw (c.in-Some.is, c.in-Ok-row.is) at ((c.next.ensures.steps inv.left inv.trim).0 inv.ready) in
-    let m = rows-more (λ (s : Bor (List ℕ)). Some s.now) c.loop-row.row-iterator.rdr c.next.new.self.rdr cells default_config st.StartRecord (strip_bom c.args.text.now) inv.rest (map (λ v. v.items) c.args.names.now ∷ inv.rows) inv.config inv.source inv.reached s.0 in
+    let inv = c.loop-count.invariant in
+    let cells : List (List ℕ) = fields_of c.read_byte_record.new.row in
+    let read = subst (λ (found : Bool). ReadRecord (λ (s : Bor (List ℕ)). Some s.now) c.loop-count.reader c.read_byte_record.new.self found cells) c.in-Ok-true.field-0-test (c.in-Ok-true.ensures.reads inv.trim inv.ready) in
+    let m = rows-more (λ (s : Bor (List ℕ)). Some s.now) c.loop-count.reader c.read_byte_record.new.self cells default_config st.StartRecord (strip_bom c.args.text.now) inv.rest (map (λ v. v.items) c.args.names.now ∷ inv.rows) inv.config inv.source inv.reached read in
     let says : Spells c.args.columns.now (texts_of c.read_row.new.dictionary) cells c.read_row.new.numbers.items = rw c.in-Ok-read_row.is at c.read_row.ensures.spelled in
-    let grows : Grows (texts_of c.loop-row.dictionary) (texts_of c.read_row.new.dictionary) = rw c.in-Ok-read_row.is at c.read_row.ensures.grows in
+    let grows : Grows (texts_of c.loop-count.dictionary) (texts_of c.read_row.new.dictionary) = rw c.in-Ok-read_row.is at c.read_row.ensures.grows in
     let target = c.args.target in
     let zs = c.read_row.new.numbers.items in
     let epoch : c.epoch_value-epoch.result ≡ epoch_of target.epochs zs = c.epoch_value-epoch.ensures ∙ ap (λ x. epoch_of target.epochs x) c.as_slice.ensures.value in
     let late = now-late _ _ _ _ (sym inv.latest) (sym epoch) (c.is_late.ensures.0 c.if-is_late.true) in
     let by = late-by target.epochs (last_epoch target None inv.all) zs late in
-    let all : SpellsAll c.args.columns.now (texts_of c.read_row.new.dictionary) inv.rows inv.all = rw grows.1 (all-kept c.args.columns.now (texts_of c.loop-row.dictionary) grows.0 inv.rows inv.all inv.spelled) in
+    let all : SpellsAll c.args.columns.now (texts_of c.read_row.new.dictionary) inv.rows inv.all = rw grows.1 (all-kept c.args.columns.now (texts_of c.loop-count.dictionary) grows.0 inv.rows inv.all inv.spelled) in
     rw (c.late_fault-fault.ensures by.0 by.1) (late-refused (map (λ v. v.items) c.args.names.now) c.args.columns.now target.epochs c.args.text.now (texts_of c.read_row.new.dictionary) inv.rows inv.all cells
-    (c.next.new.self.rdr.state, m.0, m.2) all inv.ordered by.0 zs by.1 says (late-push target None inv.all zs late))
+    (c.read_byte_record.new.self.state, m.0, m.2) all inv.ordered by.0 zs by.1 says (late-push target None inv.all zs late))

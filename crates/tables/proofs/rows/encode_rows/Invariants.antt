@@ -1,4 +1,4 @@
-use Rattle.std.proofs.Common.{◌≡◌, ◌<◌, ℕ, ℤ, List, ◌∷◌, None, Some, map}
+use Rattle.std.proofs.Common.{◌≡◌, ℕ, ℤ, List, ◌∷◌, None, Some, map}
 use Rattle.csv.specs.Reading.{Reached, Ready, default_config, source_of, strip_bom}
 use Rattle.csv.specs.declared.parser.State.TheVariants as st
 use Rattle.csv.specs.declared.reader.Trim.TheVariants as trim
@@ -8,16 +8,15 @@ use Rattle.tables.specs.Tables.{AreInOrder, rows_text}
 use Rattle.tables.proofs.Lines.{last_epoch}
 use Rattle.tables.proofs.rows.encode_rows.Given as goal
 
-abbrev pub invariant-loop-row : goal.invariant-loop-row
-invariant-loop-row l = record {
-  trim : l.row-iterator.rdr.trim ≡ trim.None;
-  ready : Ready l.row-iterator.rdr;
-  left : 0 < l.row-iterator.left;
-  config : l.row-iterator.rdr.config ≡ default_config;
+abbrev pub invariant-loop-count : goal.invariant-loop-count
+invariant-loop-count l = record {
+  trim : l.reader.trim ≡ trim.None;
+  ready : Ready l.reader;
+  config : l.reader.config ≡ default_config;
   rest : List ℕ;
-  source : source_of (λ s. Some s.now) l.row-iterator.rdr ≡ Some rest;
+  source : source_of (λ s. Some s.now) l.reader ≡ Some rest;
   rows : List (List (List ℕ));
-  reached : Reached default_config st.StartRecord (strip_bom l.fn.text) (map (λ v. v.items) l.names ∷ rows) l.row-iterator.rdr.state rest;
+  reached : Reached default_config st.StartRecord (strip_bom l.fn.text) (map (λ v. v.items) l.names ∷ rows) l.reader.state rest;
   all : List (List ℤ);
   spelled : SpellsAll l.columns (texts_of l.dictionary) rows all;
   ordered : AreInOrder l.target.epochs None all;
