@@ -3,11 +3,14 @@
 ghost use Rattle.std.specs.Prelude.{◌≡◌, ◌++◌, IfErr, IfOk, OnOk, map};
 ghost use Rattle.expr_tree.specs.Plain.{plain_input, plain_output, plain_program};
 ghost use Rattle.expr_tree.specs.Views.{output_tree, program_tree};
+ghost use Rattle.origins.specs.Shown as shown;
 ghost use Rattle.query_kinds.specs.Listed as spec;
 
+use crate::fields::push_output_fields;
 use crate::tables::{push_constants, push_table};
 use compile::{push_input, push_output, typed_program};
 use expr_tree::{Input, Output, Program};
+use origins::{Origin, program_origins};
 use record_core::Refusal;
 use schema::{Schema, Table};
 use schema_check::check_schema;
@@ -27,24 +30,29 @@ fn push_inputs(text: &mut Vec<u8>, tables: &[Table], inputs: &[Input]) -> Result
     }
 }
 
-/// Appends the outputs with their columns.
+/// Appends the outputs with their fields.
 fn push_outputs<A: Allocator>(
     text: &mut Vec<u8>,
-    tables: &[Table],
+    schema: &Schema,
+    inputs: &[Input],
     outputs: &[Output<A>],
     arities: &[u64],
+    origins: &[Vec<Origin>],
 ) -> Result<(), AllocError>
-    ensures { OnOk result (text.new.items ≡ text.old.items ++ spec.output_lines tables.now (map plain_output (map output_tree outputs.now)) arities.now) }
+    ensures { OnOk result (text.new.items ≡ text.old.items ++ spec.output_lines (spec.source_words schema.now.inputs.items (map plain_input inputs.now)) schema.now.outputs.items (map plain_output (map output_tree outputs.now)) arities.now (map (λ w. shown.origins w.items) origins.now)) }
 {
     match outputs {
         [] => Ok(()),
         [output, outputs @ ..] => match arities {
             [] => Ok(()),
-            [arity, arities @ ..] => {
-                push_output(text, output, *arity)?;
-                push_table(text, tables, &output.name)?;
-                push_outputs(text, tables, outputs, arities)
-            }
+            [arity, arities @ ..] => match origins {
+                [] => Ok(()),
+                [fields, origins @ ..] => {
+                    push_output(text, output, *arity)?;
+                    push_output_fields(text, schema, inputs, &output.name, fields)?;
+                    push_outputs(text, schema, inputs, outputs, arities, origins)
+                }
+            },
         },
     }
 }
@@ -58,15 +66,23 @@ fn listing_of<A: Allocator>(
 ) -> Result<Vec<u8>, AllocError>
     ensures { IfOk result (λ t. t.items ≡ spec.listing schema.now (plain_program (program_tree program.now)) arities.now) }
 {
+    let origins = program_origins(alloc, program)?;
     let mut text = Vec::new(alloc);
     push_inputs(&mut text, &schema.inputs, &program.inputs)?;
-    push_outputs(&mut text, &schema.outputs, &program.outputs, arities)?;
+    push_outputs(
+        &mut text,
+        schema,
+        &program.inputs,
+        &program.outputs,
+        arities,
+        &origins,
+    )?;
     push_constants(&mut text, 0, &schema.constants)?;
     Ok(text)
 }
 
-/// The inputs and outputs of a query, each field with its name and what it stands for by the schema, and the numbers of the schema's constants. Refused for
-/// the query's first fault, or where it doesn't go with the schema.
+/// The inputs and outputs of a query, each field with its name and what it stands for by the schema, an output's also with where its values come from, and
+/// the numbers of the schema's constants. Refused for the query's first fault, or where it doesn't go with the schema.
 pub fn kinds_text<A: Allocator + Copy>(
     alloc: Global,
     arena: A,

@@ -1,6 +1,6 @@
 //! Lines for the columns of tables, and for constants.
 
-ghost use Rattle.std.specs.Prelude.{◌≡◌, ◌++◌, ◌+◌, ◌<◌, ◌^◌, OnOk, codes, decimal, length};
+ghost use Rattle.std.specs.Prelude.{◌≡◌, ◌++◌, ◌+◌, ◌<◌, ◌^◌, OnOk, codes, decimal, length, option_map};
 ghost use Rattle.query_kinds.specs.Listed as spec;
 
 use csv_cells::{self, Column};
@@ -34,22 +34,21 @@ fn push_kind(text: &mut Vec<u8>, kind: csv_cells::Kind) -> Result<(), AllocError
     }
 }
 
-/// Appends the line of a column.
-fn push_column(
+/// Appends a column's number, name and kind.
+pub(crate) fn push_column(
     text: &mut Vec<u8>,
     number: u64,
     name: &[u8],
     column: Column,
 ) -> Result<(), AllocError>
-    ensures { OnOk result (text.new.items ≡ text.old.items ++ spec.column_line number name.now column) }
+    ensures { OnOk result (text.new.items ≡ text.old.items ++ spec.column_words number name.now column) }
 {
     text.extend_from_slice(b"  #")?;
     push_number(text, number)?;
     text.extend_from_slice(b" ")?;
     text.extend_from_slice(name)?;
     text.extend_from_slice(b" ")?;
-    push_kind(text, column.kind)?;
-    text.extend_from_slice(b"\n")
+    push_kind(text, column.kind)
 }
 
 /// Appends the lines of columns, from a number on.
@@ -68,10 +67,23 @@ fn push_columns(
             [] => Ok(()),
             [column, columns @ ..] => {
                 push_column(text, number, name, *column)?;
+                text.extend_from_slice(b"\n")?;
                 push_columns(text, number + 1, headers, columns)
             }
         },
     }
+}
+
+/// The table with that name.
+pub(crate) fn table_of<'a>(tables: &'a [Table], name: &Name) -> Option<&'a Table>
+    ensures { option_map (λ t. t.now) result ≡ spec.table_of tables.now name.now }
+{
+    for table in tables {
+        if table.name.as_slice() == name.bytes() {
+            return Some(table);
+        }
+    }
+    None
 }
 
 /// Appends the lines of the columns of the table with that name.
@@ -80,14 +92,12 @@ pub(crate) fn push_table(
     tables: &[Table],
     name: &Name,
 ) -> Result<(), AllocError>
-    ensures { OnOk result (text.new.items ≡ text.old.items ++ spec.table_lines tables.now name.now) }
+    ensures { OnOk result (text.new.items ≡ text.old.items ++ spec.table_lines (spec.table_of tables.now name.now)) }
 {
-    for table in tables {
-        if table.name.as_slice() == name.bytes() {
-            return push_columns(text, 0, &table.headers, &table.columns);
-        }
+    match table_of(tables, name) {
+        Some(table) => push_columns(text, 0, &table.headers, &table.columns),
+        None => Ok(()),
     }
-    Ok(())
 }
 
 /// Appends the line of a constant.

@@ -1,0 +1,8 @@
+mod Columns
+mod LoopParts
+mod Among
+mod Having
+mod Merging
+mod LoopsHave
+mod RelationsHave
+mod Different

@@ -1,0 +1,5 @@
+pub mod Sources
+pub mod Relations
+pub mod Standing
+pub mod Shown
+pub mod Steps

@@ -1,0 +1,83 @@
+//! The names in scope, with the origins of their fields.
+
+ghost use Rattle.std.specs.Prelude.{◌≡◌, ◌∷◌, ◌++◌, [], drop, IfOk, OnOk};
+ghost use Rattle.origins.specs.Relations.{entry, lookup};
+ghost use Rattle.origins.specs.Shown.{origins, scope_of};
+
+use crate::fields::copied_fields;
+use crate::source::Origin;
+use record_core::Name;
+use std::alloc::{AllocError, Global};
+use std::collections::VecDeque;
+
+/// A name and the origins of its fields.
+#[derive(Drop)]
+pub(crate) struct Known {
+    pub(crate) name: Name,
+    pub(crate) origins: Vec<Origin>,
+}
+
+/// The names in scope, the latest first.
+#[derive(Drop)]
+pub(crate) struct Scope {
+    names: VecDeque<Known>,
+}
+
+impl Scope {
+    /// No name.
+    pub(crate) fn new(alloc: Global) -> Scope
+        ensures { scope_of result ≡ [] }
+    {
+        Scope {
+            names: VecDeque::new(alloc),
+        }
+    }
+
+    /// The origins of a name; none if it isn't there.
+    pub(crate) fn origins(&self, alloc: Global, name: &Name) -> Result<Vec<Origin>, AllocError>
+        ensures { IfOk result (λ v. origins v.items ≡ lookup (scope_of self.now) name.now) }
+    {
+        for at in 0..self.names.len() {
+            let Some(known) = self.names.get(at) else {
+                unreachable!()
+            };
+            if known.name == *name {
+                return copied_fields(alloc, &known.origins);
+            }
+        }
+        Ok(Vec::new(alloc))
+    }
+
+    /// Declares a name, before all others.
+    pub(crate) fn declare(&mut self, name: &Name, fields: Vec<Origin>) -> Result<(), AllocError>
+        ensures { OnOk result (scope_of self.new ≡ entry name.now (origins fields.items) ∷ scope_of self.old) }
+    {
+        self.names.push_front(Known {
+            name: name.copied(),
+            origins: fields,
+        })?;
+        Ok(())
+    }
+
+    /// Declares a name, behind all others.
+    pub(crate) fn declare_last(
+        &mut self,
+        name: &Name,
+        fields: Vec<Origin>,
+    ) -> Result<(), AllocError>
+        ensures { OnOk result (scope_of self.new ≡ scope_of self.old ++ entry name.now (origins fields.items) ∷ []) }
+    {
+        self.names.push_back(Known {
+            name: name.copied(),
+            origins: fields,
+        })?;
+        Ok(())
+    }
+
+    /// Forgets the name that was declared last.
+    pub(crate) fn forget(&mut self)
+        ensures { scope_of self.new ≡ drop 1 (scope_of self.old) }
+    {
+        let _last = self.names.pop_front();
+    }
+}
