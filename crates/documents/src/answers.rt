@@ -7,6 +7,7 @@ use std::io::{Read, Write};
 use std::sync::Wait;
 use std::thread::Threads;
 use table_commands::{Drafts, answer_tables, is_of_tables};
+use table_follows::{answer_table_follow, is_table_follow};
 use table_runs::{answer_table_run, is_table_run};
 
 /// How often a run is repeated with each other number of workers.
@@ -92,7 +93,7 @@ fn tables_print<'a>(
     })
 }
 
-/// What the program prints that is called with these words of `run --schema`.
+/// What the program prints that is called with these words of `run --schema`, or of `follow --schema`.
 fn table_run_prints<'a>(
     rt: &'a HostRuntime,
     threads: &(impl Threads + Wait + Sync),
@@ -105,7 +106,12 @@ fn table_run_prints<'a>(
     };
     let mut out = Watched::new(Vec::new(rt.alloc()));
     let mut err = Vec::new(rt.alloc());
-    let status = answer_table_run(threads, rt.alloc(), &page, &page, words, &mut out, &mut err);
+    let alloc = rt.alloc();
+    let status = if is_table_follow(words) {
+        answer_table_follow(threads, alloc, &page, &page, words, &mut out, &mut err)
+    } else {
+        answer_table_run(threads, alloc, &page, &page, words, &mut out, &mut err)
+    };
     Ok(Printed {
         status,
         out: out.into_inner(),
@@ -123,7 +129,7 @@ fn prints(
     if is_of_tables(words) {
         return tables_print(rt, piped, words);
     }
-    if is_table_run(words) {
+    if is_table_run(words) || is_table_follow(words) {
         return table_run_prints(rt, threads, piped, words);
     }
     let page = Page {

@@ -1,4 +1,4 @@
-//! The program `loom`: words, files, exit status. What it answers is `console`'s, and for CSV files `table_commands`' and `table_runs`'; only whether
+//! The program `loom`: words, files, exit status. What it answers is `console`'s, and for CSV files `table_commands`', `table_runs`' and `table_follows`'; only whether
 //! standard error is a terminal is asked here.
 #![tactic(auto)]
 
@@ -16,6 +16,7 @@ use std::sync::Wait;
 use std::thread::Threads;
 use std::{env, io};
 use table_commands::{DiskDrafts, answer_tables, is_of_tables};
+use table_follows::{answer_table_follow, is_table_follow};
 use table_runs::{answer_table_run, is_table_run};
 
 /// The words of the line, the first of which is the program's own.
@@ -79,6 +80,27 @@ fn run_tables_here(rt: &HostRuntime, threads: &(impl Threads + Wait + Sync), wor
     )
 }
 
+/// Answers a line of `follow --schema` over the system's files and streams.
+fn follow_tables_here(
+    rt: &HostRuntime,
+    threads: &(impl Threads + Wait + Sync),
+    words: &[&str],
+) -> u8 {
+    let disk = Disk::new(rt);
+    let drafts = DiskDrafts::new(rt, rt.alloc());
+    let mut out = Watched::new(io::writer(rt));
+    let mut err = rt.stderr();
+    answer_table_follow(
+        threads,
+        rt.alloc(),
+        &disk,
+        &drafts,
+        words,
+        &mut out,
+        &mut err,
+    )
+}
+
 /// Answers any other line over the system's files and streams.
 fn answer_here(rt: &HostRuntime, threads: &(impl Threads + Wait + Sync), words: &[&str]) -> u8 {
     let disk = Disk::new(rt);
@@ -113,6 +135,8 @@ fn answer_line(rt: &HostRuntime, threads: &(impl Threads + Wait + Sync)) -> Resu
         Ok(answer_tables_here(rt, words))
     } else if is_table_run(words) {
         Ok(run_tables_here(rt, threads, words))
+    } else if is_table_follow(words) {
+        Ok(follow_tables_here(rt, threads, words))
     } else {
         Ok(answer_here(rt, threads, words))
     }

@@ -39,6 +39,27 @@ pub fn grown_text<'a>(
     }
 }
 
+/// Puts the dictionary's text in the place of its file, if it has grown.
+pub fn keep_dictionary<'a, D: Drafts>(
+    drafts: &D,
+    draft: D::Draft,
+    name: &'a str,
+    kept: Option<Vec<u8>>,
+) -> Result<(), Fault<'a>>
+    ensures { IfErr result IsWriteFault }
+{
+    match kept {
+        None => {
+            drafts.discard(draft);
+            Ok(())
+        }
+        Some(bytes) => match drafts.keep(draft, bytes.as_slice()) {
+            Ok(()) => Ok(()),
+            Err(_) => Err(Fault::Dictionary(name, false)),
+        },
+    }
+}
+
 /// Writes a text, and keeps the dictionary.
 pub fn write_with<'a, D: Drafts, W: Write>(
     drafts: &D,
@@ -55,14 +76,5 @@ pub fn write_with<'a, D: Drafts, W: Write>(
         drafts.discard(draft);
         return Err(Fault::Write);
     }
-    match kept {
-        None => {
-            drafts.discard(draft);
-            Ok(())
-        }
-        Some(bytes) => match drafts.keep(draft, bytes.as_slice()) {
-            Ok(()) => Ok(()),
-            Err(_) => Err(Fault::Dictionary(name, false)),
-        },
-    }
+    keep_dictionary(drafts, draft, name, kept)
 }

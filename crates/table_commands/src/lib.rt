@@ -19,6 +19,6 @@ pub use decoding::output_of;
 pub use drafts::{DiskDrafts, Draft, Drafts};
 pub use encoding::input_text;
 pub use fault::{Fault, WordFault, table_fault};
-pub use files::{dictionary_of, is_input_twice, paths_of, schema_of};
-pub use keeping::{begin_dictionary, grown_text, write_with};
+pub use files::{dictionary_of, is_input_twice, paths_of, read_file, schema_of};
+pub use keeping::{begin_dictionary, grown_text, keep_dictionary, write_with};
 pub use line::{LineError, dictionary_arg, files_arg, output_arg};

@@ -40,17 +40,21 @@ pub record IsAnswerFile (known : Known) (schema : Schema) (table : Table) (paths
 abbrev pub WritesAnswer : Known → Schema → Table → (paths : List (List ℕ)) → (query : List ℕ) → Option (List ℕ) → Option (List ℕ) → Type 0
 WritesAnswer known schema table paths query old new = (file : List ℕ) × IsAnswerFile known schema table paths query file × Appends old new file
 
--- it was written of the texts that a line names, by a schema that the query goes with
+-- what a line names, as it was read: a schema, the files of its inputs, and a query that goes with the schema
+pub record IsBegun (known : Known) (asked : TableRun) (schema : Schema) (paths : List (List ℕ)) (query : List ℕ) : Type 0 where
+  pub read : IsReadSchema (known asked.schema.now) schema
+  pub named : AreNamed schema.inputs.items (map (λ s. s.now) asked.files.items) paths
+  pub text : IsQueryText known asked.query query
+  pub goes : GoesWith query schema
+
+-- the file was written of what the line names, at the output that it asks for
 pub record IsDone (known : Known) (asked : TableRun) (old new : Option (List ℕ)) : Type 0 where
   pub schema : Schema
   pub table : Table
   pub paths : List (List ℕ)
   pub query : List ℕ
-  pub read : IsReadSchema (known asked.schema.now) schema
-  pub named : AreNamed schema.inputs.items (map (λ s. s.now) asked.files.items) paths
+  pub begun : IsBegun known asked schema paths query
   pub output : IsOutput schema.outputs.items (option_map (λ s. s.now) asked.output) table
-  pub text : IsQueryText known asked.query query
-  pub goes : GoesWith query schema
   pub written : WritesAnswer known schema table paths query old new
 
 -- nothing was written, or standard output or the dictionary's file failed

@@ -59,7 +59,7 @@ fn write_fault<W: Write>(
 }
 
 /// Reports a fault of the query or the run by one write, and gives its status.
-fn report_run<E: Write>(
+pub fn report_run<E: Write>(
     alloc: Global,
     asked: &TableRun<'_>,
     fault: &Fault,

@@ -1,7 +1,10 @@
 //! Why a run came to no CSV file.
 
 ghost use Rattle.std.specs.Prelude.{◌≡◌};
+ghost use Rattle.diagnostics.specs.declared.fault.Fault.TheVariants.{NoMemory};
 ghost use Rattle.table_runs.specs.declared.fault.RunFault.TheVariants.{Run, Tables};
+
+use std::alloc::AllocError;
 
 /// What goes wrong with the tables, or with the query and the run.
 #[derive(Drop)]
@@ -23,5 +26,13 @@ impl<'a> From<console::Fault> for RunFault<'a> {
 
     fn from(fault: console::Fault) -> RunFault<'a> {
         RunFault::Run(fault)
+    }
+}
+
+impl<'a> From<AllocError> for RunFault<'a> {
+    ghost from_gives = { λ _ made. made ≡ Run NoMemory };
+
+    fn from(_e: AllocError) -> RunFault<'a> {
+        RunFault::Run(console::Fault::NoMemory)
     }
 }

@@ -12,7 +12,7 @@ mod fault;
 mod line;
 mod running;
 
-pub use answering::{answer_table_run, is_table_run};
+pub use answering::{answer_table_run, is_table_run, report_run};
 pub use fault::RunFault;
-pub use line::TableRun;
-pub use running::run_tables;
+pub use line::{TableRun, read_words};
+pub use running::{Begun, Job, answer_text, asked_output, begin_run, run_job, run_tables};

@@ -1,12 +1,12 @@
-//! The words of `run --schema`, read by `clap`.
+//! The words of `run --schema` and `follow --schema`, read by `clap`.
 
 use clap::{Arg, ArgAction, ArgMatches, Command, value_parser};
 use console::{Query, Workers};
 use std::alloc::{AllocError, Global};
 use table_commands::{LineError, dictionary_arg, files_arg, output_arg};
 
-/// What a line `loom run --schema SCHEMA QUERY NAME=FILE ..` asks for, on one worker or `--workers N`, with or without `--dictionary FILE` and
-/// `--output NAME`; and a fault explained with `--explain`.
+/// What a line `loom run --schema SCHEMA QUERY NAME=FILE ..` or `loom follow --schema ..` asks for, on one worker or `--workers N`, with or without
+/// `--dictionary FILE` and `--output NAME`; and a fault explained with `--explain`.
 #[derive(Drop)]
 pub struct TableRun<'a> {
     pub schema: &'a str,
@@ -43,9 +43,10 @@ fn workers_arg<'a>(alloc: Global) -> Arg<'a> {
         .help("Number of workers, 1 to 64; default 1")
 }
 
-fn run_command<'a>(alloc: Global) -> Result<Command<'a>, AllocError> {
-    Command::new(alloc, "run")
-        .about("Answer a query over CSV files, and write the answer as one, by a schema")
+/// The command of that name, which is for this.
+fn named<'a>(alloc: Global, name: &'a str, about: &'a str) -> Result<Command<'a>, AllocError> {
+    Command::new(alloc, name)
+        .about(about)
         .arg(schema_arg(alloc))?
         .arg(dictionary_arg(alloc))?
         .arg(output_arg(alloc))?
@@ -73,7 +74,18 @@ fn workers_of(found: &ArgMatches<'_>) -> Option<Workers> {
     }
 }
 
-/// What the matches of `run` hold.
+fn run_command<'a>(alloc: Global) -> Result<Command<'a>, AllocError> {
+    let about = "Answer a query over CSV files, and write the answer as one, by a schema";
+    named(alloc, "run", about)
+}
+
+fn follow_command<'a>(alloc: Global) -> Result<Command<'a>, AllocError> {
+    let about =
+        "The same, while one of the files arrives: the rows of each epoch as soon as it is complete";
+    named(alloc, "follow", about)
+}
+
+/// What the matches of `run` or `follow` hold.
 fn asked<'a>(alloc: Global, found: &ArgMatches<'a>) -> Result<Option<TableRun<'a>>, AllocError> {
     let (Some(schema), Some(word), Some(files), Some(workers)) = (
         found.get_str("schema"),
@@ -106,13 +118,14 @@ pub fn read_words<'a>(
 ) -> Result<Option<TableRun<'a>>, LineError> {
     let command = Command::new(alloc, "loom")
         .subcommand_required(true)
-        .subcommand(run_command(alloc)?)?;
+        .subcommand(run_command(alloc)?)?
+        .subcommand(follow_command(alloc)?)?;
     let found = match command.try_get_matches_from(words) {
         Ok(found) => found,
         Err(error) => return Err(LineError::Words(error)),
     };
     match found.subcommand() {
-        Some(("run", matches)) => Ok(asked(alloc, matches)?),
+        Some(("run" | "follow", matches)) => Ok(asked(alloc, matches)?),
         _ => Ok(None),
     }
 }

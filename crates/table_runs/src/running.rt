@@ -4,8 +4,8 @@ ghost use Rattle.std.specs.Prelude.{◌≡◌, IfErr, IfOk, OnOk, map, option_ma
 ghost use Rattle.collector.specs.Watching.{inner_of};
 ghost use Rattle.console.specs.Readings.{read_part};
 ghost use Rattle.console.specs.Runs.{IsRun};
-ghost use Rattle.table_commands.specs.Read.{IsKnownAs};
-ghost use Rattle.table_runs.specs.Runs.{Fails, GoesWith, IsAnswerFile, IsDone, IsQueryText, WritesAnswer};
+ghost use Rattle.table_commands.specs.Read.{IsKnownAs, IsOutput};
+ghost use Rattle.table_runs.specs.Runs.{Fails, GoesWith, IsAnswerFile, IsBegun, IsDone, IsQueryText, WritesAnswer};
 
 use crate::fault::RunFault;
 use crate::line::TableRun;
@@ -35,16 +35,25 @@ const ANSWER: &str = "answer";
 
 /// A query and the files that it runs on, by a schema.
 #[derive(Clone, Copy)]
-struct Job<'s, 'a> {
-    schema: &'s Schema,
+pub struct Job<'s, 'a> {
+    pub schema: &'s Schema,
     /// The files of the schema's inputs, in its order.
-    paths: &'s [&'a str],
+    pub paths: &'s [&'a str],
     /// The output that is written.
-    table: &'s Table,
-    query: &'s [u8],
-    workers: Workers,
+    pub table: &'s Table,
+    pub query: &'s [u8],
+    pub workers: Workers,
     /// The name of the dictionary that is kept.
-    dictionary: Option<&'a str>,
+    pub dictionary: Option<&'a str>,
+}
+
+/// What is read before any CSV file.
+#[derive(Drop)]
+pub struct Begun<'a> {
+    pub schema: Schema,
+    /// The files of the schema's inputs, in its order.
+    pub paths: Vec<&'a str>,
+    pub query: Vec<u8>,
 }
 
 /// Reads a query text, and no byte past the limit.
@@ -96,8 +105,8 @@ fn check_query(alloc: Global, query: &[u8], schema: &Schema) -> Result<(), Fault
     }
 }
 
-/// The answer of a query text to an input text.
-fn answer_text<R: Threads + Wait + Sync>(
+/// The answer of a query text to an input text. What was read of the input is left in `texts`.
+pub fn answer_text<R: Threads + Wait + Sync>(
     rt: &R,
     alloc: Global,
     workers: Workers,
@@ -201,8 +210,9 @@ fn run_without<'a, R: Threads + Wait + Sync, S: Sources<'a>, W: Write>(
     }
 }
 
-/// Runs, and keeps the dictionary if there is one, which no other command writes meanwhile.
-fn run_job<'a, R: Threads + Wait + Sync, S: Sources<'a>, D: Drafts, W: Write>(
+/// Runs, and keeps the dictionary if there is one, which no other command writes meanwhile. At a fault nothing is written, unless the writer or the
+/// dictionary's file failed.
+pub fn run_job<'a, R: Threads + Wait + Sync, S: Sources<'a>, D: Drafts, W: Write>(
     rt: &R,
     alloc: Global,
     sources: &S,
@@ -236,10 +246,57 @@ fn path_of<'a>(query: Query<'a>) -> &'a str {
     }
 }
 
+/// The output that is asked for.
+pub fn asked_output<'s, 'a>(
+    schema: &'s Schema,
+    output: Option<&'a str>,
+) -> Result<&'s Table, RunFault<'a>>
+    ensures { IfOk result (λ table. IsOutput schema.now.outputs.items (option_map (λ s. s.now) output.entry) table.now) }
+{
+    match output_of(schema, output) {
+        Some(table) => Ok(table),
+        None => {
+            let fault = table_commands::Fault::Words(WordFault::NoOutput);
+            Err(RunFault::Tables(fault))
+        }
+    }
+}
+
+/// Reads the schema, the words and the query of a line, and checks that the query goes with the schema. Of the query what was read is left in `texts`
+/// where it is refused.
+///
+/// Faults are reported in this order: the schema, the words, the query's text, what it computes by the schema.
+pub fn begin_run<'a, S: Sources<'a>>(
+    alloc: Global,
+    sources: &S,
+    asked: &TableRun<'a>,
+    texts: &mut Texts,
+) -> Result<Begun<'a>, RunFault<'a>>
+    ensures { IfOk result (λ b. IsBegun (S.content sources.now) asked.now b.schema (map (λ s. s.now) b.paths.items) b.query.items) }
+{
+    let schema = schema_of(alloc, sources, asked.schema)?;
+    let paths = paths_of(alloc, &schema, asked.files.as_slice())?;
+    if is_input_twice(&[asked.schema, path_of(asked.query)], paths.as_slice()) {
+        let fault = table_commands::Fault::Words(WordFault::InputTwice);
+        return Err(RunFault::Tables(fault));
+    }
+    asked_output(&schema, asked.output)?;
+    let query = query_text(alloc, sources, asked.query, texts)?;
+    if let Err(fault) = check_query(alloc, query.as_slice(), &schema) {
+        texts.query = query;
+        return Err(RunFault::Run(fault));
+    }
+    Ok(Begun {
+        schema,
+        paths,
+        query,
+    })
+}
+
 /// Writes the CSV file of a query's answer, and then keeps the dictionary. At a fault nothing is written, unless the writer or the dictionary's file failed.
 ///
-/// Faults are reported in this order: the schema, the words, the query's text, what it computes by the schema, the dictionary, the CSV files, the run, the
-/// answer's cells. What was read of the query and its input text is left in `texts`.
+/// Faults are reported in this order: those of `begin_run`, the dictionary, the CSV files, the run, the answer's cells. What was read of the query and its
+/// input text is left in `texts`.
 pub fn run_tables<'a, R: Threads + Wait + Sync, S: Sources<'a>, D: Drafts, W: Write>(
     rt: &R,
     alloc: Global,
@@ -252,26 +309,12 @@ pub fn run_tables<'a, R: Threads + Wait + Sync, S: Sources<'a>, D: Drafts, W: Wr
     ensures written { OnOk result (IsDone (S.content sources.now) asked.now (W.contents (inner_of out.old)) (W.contents (inner_of out.new))) }
     ensures fault { IfErr result (Fails (W.contents (inner_of out.old)) (W.contents (inner_of out.new))) }
 {
-    let schema = schema_of(alloc, sources, asked.schema)?;
-    let paths = paths_of(alloc, &schema, asked.files.as_slice())?;
-    if is_input_twice(&[asked.schema, path_of(asked.query)], paths.as_slice()) {
-        let fault = table_commands::Fault::Words(WordFault::InputTwice);
-        return Err(RunFault::Tables(fault));
-    }
-    let Some(table) = output_of(&schema, asked.output) else {
-        let fault = table_commands::Fault::Words(WordFault::NoOutput);
-        return Err(RunFault::Tables(fault));
-    };
-    let query = query_text(alloc, sources, asked.query, texts)?;
-    if let Err(fault) = check_query(alloc, query.as_slice(), &schema) {
-        texts.query = query;
-        return Err(RunFault::Run(fault));
-    }
+    let begun = begin_run(alloc, sources, asked, texts)?;
     let job = Job {
-        schema: &schema,
-        paths: paths.as_slice(),
-        table,
-        query: query.as_slice(),
+        schema: &begun.schema,
+        paths: begun.paths.as_slice(),
+        table: asked_output(&begun.schema, asked.output)?,
+        query: begun.query.as_slice(),
         workers: asked.workers,
         dictionary: asked.dictionary,
     };

@@ -1,0 +1,57 @@
+//! A line of words, answered.
+
+ghost use Rattle.std.specs.Prelude.{◌≡◌, [], codes, get_or, map, true};
+
+use crate::following::follow_tables;
+use collector::{Sources, Watched};
+use console::Texts;
+use std::alloc::Global;
+use std::io::Write;
+use std::sync::Wait;
+use std::thread::Threads;
+use table_commands::{Drafts, refuse, report};
+use table_runs::{RunFault, read_words, report_run};
+
+/// Whether a line, whose first word is the program's own, is one of `follow` with the option `--schema`.
+pub fn is_table_follow(words: &[&str]) -> bool
+    ensures { result ≡ true → get_or (map (λ s. s.now) words.now) 1 [] ≡ codes "follow" }
+{
+    match words {
+        [_, first, others @ ..] if *first == "follow" => others
+            .iter()
+            .take_while(|word| **word != "--")
+            .any(|word| *word == "--schema" || word.starts_with("--schema=")),
+        _ => false,
+    }
+}
+
+/// Answers a line of `follow --schema`, whose first word is the program's own, and gives the status: 0 done, 2 command line, 3 schema or query, 4 a file's
+/// text, 5 memory, a count or a thread, 6 file. The rows that were written before a fault stay.
+pub fn answer_table_follow<
+    'a,
+    R: Threads + Wait + Sync,
+    S: Sources<'a>,
+    D: Drafts,
+    W: Write,
+    E: Write,
+>(
+    rt: &R,
+    alloc: Global,
+    sources: &S,
+    drafts: &D,
+    words: &'a [&'a str],
+    out: &mut Watched<W>,
+    err: &mut E,
+) -> u8 {
+    let asked = match read_words(alloc, words) {
+        Ok(Some(asked)) => asked,
+        Ok(None) => return 2,
+        Err(error) => return refuse(error, err),
+    };
+    let mut texts = Texts::new(alloc);
+    match follow_tables(rt, alloc, sources, drafts, &asked, &mut texts, out) {
+        Ok(()) => 0,
+        Err(RunFault::Tables(fault)) => report(alloc, &fault, err),
+        Err(RunFault::Run(fault)) => report_run(alloc, &asked, &fault, &texts, err),
+    }
+}
