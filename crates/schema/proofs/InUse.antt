@@ -1,13 +1,11 @@
--- A name that is new is in no list, and the place of one that is there.
-use Rattle.std.proofs.Common.{◌≡◌, ◌≢◌, ◌<◌, ◌+◌, ◌||◌, Bool, true, false, ℕ, List, [], ◌∷◌, drop, get_or, length, map, refl, sym, inl, inr}
+-- A name that is new is in no list.
+use Rattle.std.proofs.Common.{◌≡◌, ◌≢◌, ◌||◌, Bool, false, ℕ, List, [], ◌∷◌, length, map, refl, sym, inl, inr}
 use Rattle.std.specs.List.{list_any}
 use Rattle.std.specs.Str.{bytes_eq}
 use Rattle.std.proofs.lemmas.Bool.{cases_Bool}
-use Rattle.std.proofs.lemmas.List.{drop_more}
 use Rattle.std.proofs.lemmas.Slice.Eq.{bytes_eq-Decides}
 use Rattle.schema.specs.Drafts.{IsNew}
 use Rattle.schema.specs.Schemas.{said, said_constant}
-use Rattle.schema.specs.Steps.{place_in}
 use Rattle.schema.specs.declared.tables.Constant.{Constant}
 use Rattle.schema.specs.declared.tables.Table.{Table}
 
@@ -24,11 +22,13 @@ pub header-free : {X : Type 0} (f : X → List ℕ) (name : List ℕ) (xs : List
 header-free f name [] new = refl
 header-free f name (x ∷ xs) (apart, new) = neither _ _ (differs name (f x) apart) (header-free f name xs new)
 
-pub table-free : (name : List ℕ) (tables : List Table) → IsNew name (map (λ t. t.name) (map said tables)) → list_any (λ t. bytes_eq t.name.items name) tables ≡ false
+pub table-free : (name : List ℕ) (tables : List Table) → IsNew name (map (λ t. t.name) (map said tables))
+    → list_any (λ t. bytes_eq t.name.items name) tables ≡ false
 table-free name [] new = refl
 table-free name (t ∷ ts) (apart, new) = neither _ _ (differs name t.name.items apart) (table-free name ts new)
 
-pub constant-free : (name text : List ℕ) (constants : List Constant) → IsNew name (map (λ c. c.0) (map said_constant constants)) → IsNew text (map (λ c. c.1) (map said_constant constants))
+pub constant-free : (name text : List ℕ) (constants : List Constant) → IsNew name (map (λ c. c.0) (map said_constant constants))
+    → IsNew text (map (λ c. c.1) (map said_constant constants))
     → list_any (λ c. bytes_eq c.name.items name || bytes_eq c.text.items text) constants ≡ false
 constant-free name text [] new unlike = refl
 constant-free name text (c ∷ cs) (apart, new) (other, unlike) =
@@ -38,10 +38,3 @@ constant-free name text (c ∷ cs) (apart, new) (other, unlike) =
 pub none-said : {X Y : Type 0} (f : X → Y) (xs : List X) → map f xs ≡ [] → length xs ≡ 0
 none-said f [] e = refl
 none-said f (x ∷ xs) e = cc e
-
--- the place of a name among those that are left
-pub place-here : (name : List ℕ) (names : List (List ℕ)) (i : ℕ) → i < length names → bytes_eq (get_or names i []) name ≡ true → place_in name (drop i names) ≡ 0
-place-here name names i below e = rw (drop_more names i [] below) (rw e refl)
-
-pub place-next : (name : List ℕ) (names : List (List ℕ)) (i : ℕ) → i < length names → bytes_eq (get_or names i []) name ≡ false → place_in name (drop i names) ≡ place_in name (drop (i + 1) names) + 1
-place-next name names i below e = rw (drop_more names i [] below) (rw e refl)

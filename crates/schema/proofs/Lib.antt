@@ -1,10 +1,5 @@
 pub mod Written
-pub mod Each
 pub mod Right
-pub mod Spelled
-pub mod CellBytes
-pub mod ColumnLines
-pub mod SaidLines
 pub mod RightRuns
 pub mod InUse
 pub mod TextLines

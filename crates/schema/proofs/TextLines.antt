@@ -2,20 +2,18 @@
 use Rattle.std.proofs.Common.{◌≡◌, ℕ, List, [], ◌∷◌, ◌++◌, codes, map, refl, sym, ◌∙◌, ap, subst}
 use Rattle.std.specs.List.{AllByRecursion}
 use Rattle.std.proofs.lemmas.List.{append_assoc}
-use Rattle.csv_cells.proofs.Rows.{stands-once}
 use Rattle.csv_cells.specs.declared.column.Column.{Column}
-use Rattle.csv_cells.specs.declared.column.Empty.{Empty}
-use Rattle.csv_cells.specs.declared.column.Empty.TheVariants.{Refused, Kept, Number}
-use Rattle.csv_cells.specs.declared.column.Kind.{Kind}
-use Rattle.schema.specs.Lines.{Event, IsLine, begins_input, begins_output, has_column, has_constant, epoched_text}
+use Rattle.schema_lines.specs.Lines.{Event, epoched_text}
 use Rattle.schema.specs.Schemas.{parts_of, said, said_constant}
 use Rattle.schema.specs.Steps.{AreLines, column_events, constant_events, epoched_of, events_of, input_event, output_event, table_events}
-use Rattle.schema.specs.Text.{AreColumnsText, AreTablesText, IsEmptyText, IsSchemaText, constants_text, epochs_text, kind_text, names_of}
+use Rattle.schema_lines.specs.Words.{kind_text}
+use Rattle.schema.specs.Text.{AreColumnsText, AreTablesText, IsSchemaText, constants_text, epochs_text, names_of}
 use Rattle.schema.specs.declared.tables.Constant.{Constant}
 use Rattle.schema.specs.declared.tables.Epochs.{Epochs}
 use Rattle.schema.specs.declared.tables.Epochs.TheVariants.{One, By, Every}
 use Rattle.schema.specs.declared.tables.Schema.{Schema}
 use Rattle.schema.specs.declared.tables.Table.{Table}
+use Rattle.schema_lines.proofs.LineBytes.{line-same}
 
 lines-append : (a b : List Event) (s t : List ℕ) → AreLines a s → AreLines b t → AreLines (a ++ b) (s ++ t)
 unfolding AreLines
@@ -23,30 +21,41 @@ lines-append [] b s t e more = rw e more
 lines-append (x ∷ xs) b s t (line, rest, is, more, whole) others =
     (line, rest ++ t, is, lines-append xs b rest t more others, ap (λ u. u ++ t) whole ∙ append_assoc line (10 ∷ rest) t)
 
-column-split : (n k rest lines : List ℕ) → (codes "  " ++ (n ++ (codes " " ++ (k ++ (rest ++ codes "\n"))))) ++ lines ≡ (codes "  " ++ (n ++ (codes " " ++ (k ++ rest)))) ++ 10 ∷ lines
+column-split : (n k rest lines : List ℕ) → (codes "  " ++ (n ++ (codes " " ++ (k ++ (rest ++ codes "\n"))))) ++ lines
+    ≡ (codes "  " ++ (n ++ (codes " " ++ (k ++ rest)))) ++ 10 ∷ lines
 column-split n k rest lines = simp append_assoc refl
 
-column-lines : (names : List (List ℕ)) (columns : List Column) (text : List ℕ) → AreColumnsText names columns text → AreLines (column_events names columns) text
+column-lines : (names : List (List ℕ)) (columns : List Column) (text : List ℕ) → AreColumnsText names columns text
+    → AreLines (column_events names columns) text
 unfolding AreColumnsText AreLines column_events
 column-lines [] [] text e = e
 column-lines [] (c ∷ cs) text e = absurd e
 column-lines (n ∷ ns) [] text e = absurd e
 column-lines (n ∷ ns) (c ∷ cs) text (line, lines, (rest, empty, is), more, whole) =
-    let words = n ++ (codes " " ++ (kind_text c.kind ++ rest)) in
-    (codes "  " ++ words, lines, (words, (rest, empty, refl), refl), column-lines ns cs lines more, whole ∙ ap (λ l. l ++ lines) is ∙ column-split n (kind_text c.kind) rest lines)
+    let words = n ++ (codes " " ++ (kind_text c.kind ++ rest)) in (
+      codes "  " ++ words,
+      lines,
+      (words, (rest, empty, refl), refl),
+      column-lines ns cs lines more,
+      whole ∙ ap (λ l. l ++ lines) is
+          ∙ column-split n (kind_text c.kind) rest lines,
+    )
 
 words-same : (epochs : Epochs) (names : List (List ℕ)) → epochs_text epochs names ≡ epoched_text (epoched_of epochs names)
 words-same One names = refl
 words-same (By place) names = refl
 words-same Every names = refl
 
-input-split : (name words lines rest : List ℕ) → ((codes "input " ++ (name ++ (words ++ codes "\n"))) ++ lines) ++ rest ≡ (codes "input " ++ (name ++ words)) ++ 10 ∷ (lines ++ rest)
+input-split : (name words lines rest : List ℕ) → ((codes "input " ++ (name ++ (words ++ codes "\n"))) ++ lines) ++ rest
+    ≡ (codes "input " ++ (name ++ words)) ++ 10 ∷ (lines ++ rest)
 input-split name words lines rest = simp append_assoc refl
 
-output-split : (name lines rest : List ℕ) → ((codes "output " ++ (name ++ codes "\n")) ++ lines) ++ rest ≡ (codes "output " ++ name) ++ 10 ∷ (lines ++ rest)
+output-split : (name lines rest : List ℕ) → ((codes "output " ++ (name ++ codes "\n")) ++ lines) ++ rest ≡ (codes "output " ++ name) ++ 10
+    ∷ (lines ++ rest)
 output-split name lines rest = simp append_assoc refl
 
-input-lines : (tables : List Table) (text : List ℕ) → AreTablesText (codes "input ") tables text → AreLines (table_events input_event (map said tables)) text
+input-lines : (tables : List Table) (text : List ℕ) → AreTablesText (codes "input ") tables text
+    → AreLines (table_events input_event (map said tables)) text
 unfolding AreTablesText AreLines table_events
 input-lines [] text e = e
 input-lines (t ∷ ts) text (first, rest, (lines, columns, is), more, whole) =
@@ -55,11 +64,13 @@ input-lines (t ∷ ts) text (first, rest, (lines, columns, is), more, whole) =
       codes "input " ++ (t.name.items ++ words),
       lines ++ rest,
       refl,
-      lines-append (column_events (names_of t) t.columns.items) (table_events input_event (map said ts)) lines rest (column-lines (names_of t) t.columns.items lines columns) (input-lines ts rest more),
+      lines-append (column_events (names_of t) t.columns.items) (table_events input_event (map said ts)) lines rest
+          (column-lines (names_of t) t.columns.items lines columns) (input-lines ts rest more),
       whole ∙ ap (λ f. f ++ rest) (is ∙ named) ∙ input-split t.name.items words lines rest,
     )
 
-output-lines : (tables : List Table) (text : List ℕ) → AllByRecursion (λ t. t.epochs ≡ One) (map said tables) → AreTablesText (codes "output ") tables text → AreLines (table_events output_event (map said tables)) text
+output-lines : (tables : List Table) (text : List ℕ) → AllByRecursion (λ t. t.epochs ≡ One) (map said tables)
+    → AreTablesText (codes "output ") tables text → AreLines (table_events output_event (map said tables)) text
 unfolding AreTablesText AreLines table_events
 output-lines [] text ones e = e
 output-lines (t ∷ ts) text ones (first, rest, (lines, columns, is), more, whole) =
@@ -67,42 +78,41 @@ output-lines (t ∷ ts) text ones (first, rest, (lines, columns, is), more, whol
       codes "output " ++ t.name.items,
       lines ++ rest,
       refl,
-      lines-append (column_events (names_of t) t.columns.items) (table_events output_event (map said ts)) lines rest (column-lines (names_of t) t.columns.items lines columns) (output-lines ts rest ones.1 more),
+      lines-append (column_events (names_of t) t.columns.items) (table_events output_event (map said ts)) lines rest
+          (column-lines (names_of t) t.columns.items lines columns) (output-lines ts rest ones.1 more),
       whole ∙ ap (λ f. f ++ rest) (is ∙ named) ∙ output-split t.name.items lines rest,
     )
 
-constant-split : (name text rest : List ℕ) → (codes "constant " ++ (name ++ (codes " = \"" ++ (text ++ codes "\"\n")))) ++ rest ≡ (codes "constant " ++ (name ++ (codes " = \"" ++ (text ++ codes "\"")))) ++ 10 ∷ rest
+constant-split : (name text rest : List ℕ) → (codes "constant " ++ (name ++ (codes " = \"" ++ (text ++ codes "\"\n")))) ++ rest
+    ≡ (codes "constant " ++ (name ++ (codes " = \"" ++ (text ++ codes "\"")))) ++ 10 ∷ rest
 constant-split name text rest = simp append_assoc refl
 
 constant-lines : (constants : List Constant) → AreLines (constant_events (map said_constant constants)) (constants_text constants)
 unfolding constants_text AreLines constant_events
 constant-lines [] = refl
-constant-lines (c ∷ cs) =
-    (codes "constant " ++ (c.name.items ++ (codes " = \"" ++ (c.text.items ++ codes "\""))), constants_text cs, refl, constant-lines cs, constant-split c.name.items c.text.items (constants_text cs))
+constant-lines (c ∷ cs) = (
+  codes "constant " ++ (c.name.items
+      ++ (codes " = \"" ++ (c.text.items ++ codes "\""))),
+  constants_text cs,
+  refl,
+  constant-lines cs,
+  constant-split c.name.items
+      c.text.items (constants_text cs),
+)
 
-pub schema-lines : (s : Schema) (text : List ℕ) → AllByRecursion (λ t. t.epochs ≡ One) (map said s.outputs.items) → IsSchemaText s text → AreLines (events_of (parts_of s)) text
+pub schema-lines : (s : Schema) (text : List ℕ) → AllByRecursion (λ t. t.epochs ≡ One) (map said s.outputs.items) → IsSchemaText s text
+    → AreLines (events_of (parts_of s)) text
 schema-lines s text ones (inputs, outputs, ins, outs, whole) =
     let first = table_events input_event (map said s.inputs.items) in
     let second = table_events output_event (map said s.outputs.items) in
     let last = constant_events (map said_constant s.constants.items) in
     let L : List ℕ → Type 0 = λ t. AreLines (first ++ (second ++ last)) t in
-    subst L (sym whole) (lines-append first (second ++ last) inputs (outputs ++ constants_text s.constants.items) (input-lines s.inputs.items inputs ins)
-    (lines-append second last outputs (constants_text s.constants.items) (output-lines s.outputs.items outputs ones outs) (constant-lines s.constants.items)))
+    subst L (sym whole) (lines-append first (second ++ last) inputs (outputs ++ constants_text s.constants.items)
+    (input-lines s.inputs.items inputs ins)
+    (lines-append second last outputs (constants_text s.constants.items) (output-lines s.outputs.items outputs ones outs)
+    (constant-lines s.constants.items)))
 
 -- what lines say decides them
-empty-same : (kind : Kind) (empty : Empty) (a b : List ℕ) → IsEmptyText empty kind a → IsEmptyText empty kind b → a ≡ b
-empty-same kind Refused a b e f = e ∙ sym f
-empty-same kind Kept a b e f = e.1 ∙ sym f.1
-empty-same kind (Number n) a b (cell, stands, is) (cell', stands', is') =
-    is ∙ ap (λ c. codes " or " ++ c) (stands-once (record { kind = kind; empty = Refused }) [] n cell cell' stands stands') ∙ sym is'
-
-line-same : (event : Event) (a b : List ℕ) → IsLine event a → IsLine event b → a ≡ b
-line-same (begins_input name epochs) a b e f = e ∙ sym f
-line-same (begins_output name) a b e f = e ∙ sym f
-line-same (has_column name c) a b (words, (rest, empty, is), e) (words', (rest', empty', is'), f) =
-    e ∙ ap (λ w. codes "  " ++ w) (is ∙ ap (λ r. name ++ (codes " " ++ (kind_text c.kind ++ r))) (empty-same c.kind c.empty rest rest' empty empty') ∙ sym is') ∙ sym f
-line-same (has_constant name value) a b e f = e ∙ sym f
-
 pub lines-same : (events : List Event) (s t : List ℕ) → AreLines events s → AreLines events t → s ≡ t
 unfolding AreLines
 lines-same [] s t e f = e ∙ sym f

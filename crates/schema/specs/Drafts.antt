@@ -1,7 +1,8 @@
 -- What was read of a schema so far.
 use Rattle.std.specs.Prelude.{◌≡◌, ◌≢◌, ◌≤◌, Bool, true, false, ℕ, List, length, map, Option, Some, None, ⊤}
 use Rattle.std.specs.List.{AllByRecursion}
-use Rattle.schema.specs.Schemas.{AreConstants, AreDifferent, AreTables, IsColumn, IsHeader, IsName, Said, is_by, said, said_constant}
+use Rattle.schema_lines.specs.Words.{IsColumn, IsHeader, IsName}
+use Rattle.schema.specs.Schemas.{AreConstants, AreDifferent, AreTables, Said, is_by, said, said_constant}
 use Rattle.schema.specs.declared.tables.Epochs.TheVariants.{One}
 use Rattle.schema.specs.declared.tables.Schema.{Schema}
 use Rattle.schema.specs.declared.draft.Draft.{Draft}
@@ -35,7 +36,8 @@ MayAdd schema true table = IsNew table.name (map (λ t. t.name) (map said schema
 
 abbrev pub IsOpenIn : Schema → Option Open → Type 0
 IsOpenIn schema None = ⊤
-IsOpenIn schema (Some opened) = IsOpenTable (said opened.table) × MayAdd schema opened.is_output (said opened.table) × (opened.is_output ≡ true → opened.by ≡ None)
+IsOpenIn schema (Some opened) = IsOpenTable (said opened.table) × MayAdd schema opened.is_output (said opened.table)
+    × (opened.is_output ≡ true → opened.by ≡ None)
 
 abbrev pub IsDraft : Draft → Type 0
 IsDraft draft = IsBegun draft.schema × IsOpenIn draft.schema draft.last

@@ -1,5 +1,6 @@
 pub mod Text
 pub mod Schemas
-pub mod Lines
 pub mod Drafts
 pub mod Steps
+pub use Rattle.schema_lines.specs.Lines
+pub use Rattle.schema_lines.specs.Words

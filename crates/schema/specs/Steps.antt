@@ -1,17 +1,21 @@
 -- How a schema is read line by line: when a line may come, and what it adds.
-use Rattle.std.specs.Prelude.{◌≡◌, ◌≢◌, ◌<◌, ◌≤◌, ◌+◌, cond, Bool, true, false, ℕ, List, [], ◌∷◌, ◌++◌, get_or, length, map, Option, Some, None, Result, Ok, Err, ⊤}
+use Rattle.std.specs.Prelude.{◌≡◌, ◌≢◌, ◌<◌, ◌≤◌, Bool, true, false, ℕ, List, []}
+use Rattle.std.specs.Prelude.{◌∷◌, ◌++◌, get_or, length, map, Option, Some, None, Result, Ok, Err, ⊤}
 use Rattle.std.specs.List.{AllByRecursion}
 use Rattle.std.specs.Option.{option_map}
-use Rattle.std.specs.Str.{bytes_eq}
 use Rattle.csv_cells.specs.declared.column.Column.{Column}
 use Rattle.schema.specs.Drafts.{IsNew}
-use Rattle.schema.specs.Lines.{Epoched, Event, IsLine, IsProper, at_once, by_name, in_each, begins_input, begins_output, has_column, has_constant}
-use Rattle.schema.specs.Schemas.{IsEpochsOf, IsName, Parts, Said, parts_of, said, said_constant}
+use Rattle.schema_lines.specs.Lines.{Epoched, Event, IsLine, IsProper, at_once, by_name}
+use Rattle.schema_lines.specs.Lines.{in_each, begins_input, begins_output, has_column, has_constant}
+use Rattle.schema_lines.specs.Words.{IsName}
+pub use Rattle.schema_lines.specs.Words.{place_in}
+pub use Rattle.schema_lines.specs.Lines.{begun_by}
+use Rattle.schema.specs.Schemas.{IsEpochsOf, Parts, Said, parts_of, said, said_constant}
 use Rattle.schema.specs.declared.draft.Draft.{Draft}
 use Rattle.schema.specs.declared.draft.Open.{Open}
-use Rattle.schema.specs.declared.lines.LineError.{LineError}
-use Rattle.schema.specs.declared.lines.LineError.TheVariants as error
-use Rattle.schema.specs.declared.refusal.Fault.{Fault}
+use Rattle.schema_lines.specs.declared.lines.LineError.{LineError}
+use Rattle.schema_lines.specs.declared.lines.LineError.TheVariants as error
+use Rattle.schema_lines.specs.declared.fault.Fault.{Fault}
 use Rattle.schema.specs.declared.refusal.SchemaRefusal.{SchemaRefusal}
 use Rattle.schema.specs.declared.refusal.SchemaRefusal.TheVariants as refusal
 use Rattle.schema.specs.declared.tables.Epochs.{Epochs}
@@ -36,11 +40,6 @@ pub record State : Type 0 where
 abbrev pub state_of : Draft → State
 state_of draft = record { parts = parts_of draft.schema; opened = option_map opened_of draft.last }
 
--- the place of a column by its name
-abbrev pub place_in : List ℕ → List (List ℕ) → ℕ
-place_in name [] = 0
-place_in name (n ∷ ns) = cond (bytes_eq n name) 0 (place_in name ns + 1)
-
 -- a table, when it ends
 abbrev pub with_by : Option (List ℕ) → Said → Said
 with_by None table = table
@@ -48,7 +47,8 @@ with_by (Some name) table = record { name = table.name; epochs = By (place_in na
 
 abbrev pub MayEnd : Option (List ℕ) → Said → Type 0
 MayEnd None table = 1 ≤ length table.columns
-MayEnd (Some name) table = (1 ≤ length table.columns) × (place_in name table.names < length table.names) × IsEpochsOf table.columns (By (place_in name table.names))
+MayEnd (Some name) table = (1 ≤ length table.columns) × (place_in name table.names < length table.names)
+    × IsEpochsOf table.columns (By (place_in name table.names))
 
 abbrev pub put : Bool → Said → Parts → Parts
 put false table parts = record { inputs = parts.inputs ++ table ∷ []; outputs = parts.outputs; constants = parts.constants }
@@ -68,17 +68,13 @@ begun_epochs at_once = One
 begun_epochs (by_name name) = One
 begun_epochs in_each = Every
 
-abbrev pub begun_by : Epoched → Option (List ℕ)
-begun_by at_once = None
-begun_by (by_name name) = Some name
-begun_by in_each = None
-
 abbrev pub begun : List ℕ → Epochs → Said
 begun name epochs = record { name = name; epochs = epochs; names = []; columns = [] }
 
 -- with one more column
 abbrev pub grown : Said → List ℕ → Column → Said
-grown table name column = record { name = table.name; epochs = table.epochs; names = table.names ++ name ∷ []; columns = table.columns ++ column ∷ [] }
+grown table name column =
+    record { name = table.name; epochs = table.epochs; names = table.names ++ name ∷ []; columns = table.columns ++ column ∷ [] }
 
 abbrev pub MayGrow : Said → List ℕ → Type 0
 MayGrow table name = (name ≢ []) × (length table.columns < 16) × IsNew name table.names
@@ -112,8 +108,12 @@ Allowed state (has_column name column) = MayHaveColumn state.opened name
 Allowed state (has_constant name text) = MayClose state.opened × MayAddConstant (closed state.opened state.parts) name text
 
 abbrev pub after : State → Event → State
-after state (begins_input name epochs) = record { parts = closed state.opened state.parts; opened = Some (record { table = begun name (begun_epochs epochs); by = begun_by epochs; output = false }) }
-after state (begins_output name) = record { parts = closed state.opened state.parts; opened = Some (record { table = begun name One; by = None; output = true }) }
+after state (begins_input name epochs) = record {
+  parts = closed state.opened state.parts;
+  opened = Some (record { table = begun name (begun_epochs epochs); by = begun_by epochs; output = false });
+}
+after state (begins_output name) =
+    record { parts = closed state.opened state.parts; opened = Some (record { table = begun name One; by = None; output = true }) }
 after state (has_column name column) = record { parts = state.parts; opened = wider state.opened name column }
 after state (has_constant name text) = record { parts = with_constant (closed state.opened state.parts) name text; opened = None }
 

@@ -1,41 +1,20 @@
 -- The text of a schema, line by line.
-use Rattle.std.specs.Prelude.{◌≡◌, ℕ, List, [], ◌∷◌, ◌++◌, codes, decimal, get_or, map}
-use Rattle.csv_cells.specs.Cells.{StandsAs}
-use Rattle.csv_cells.specs.declared.column.Kind.{Kind}
-use Rattle.csv_cells.specs.declared.column.Kind.TheVariants.{Int, Decimal, Date, Time, Text}
-use Rattle.csv_cells.specs.declared.column.Empty.{Empty}
-use Rattle.csv_cells.specs.declared.column.Empty.TheVariants.{Refused, Kept, Number}
+use Rattle.std.specs.Prelude.{◌≡◌, ℕ, List, [], ◌∷◌, ◌++◌, codes, get_or, map}
 use Rattle.csv_cells.specs.declared.column.Column.{Column}
+pub use Rattle.schema_lines.specs.Words.{IsColumnText, IsEmptyText, kind_text}
 use Rattle.schema.specs.declared.tables.Epochs.{Epochs}
 use Rattle.schema.specs.declared.tables.Epochs.TheVariants.{One, By, Every}
 use Rattle.schema.specs.declared.tables.Table.{Table}
 use Rattle.schema.specs.declared.tables.Constant.{Constant}
 use Rattle.schema.specs.declared.tables.Schema.{Schema}
 
--- the word for a kind
-abbrev pub kind_text : Kind → List ℕ
-kind_text Int = codes "int"
-kind_text (Decimal places) = codes "decimal(" ++ (decimal places ++ codes ")")
-kind_text Date = codes "date"
-kind_text Time = codes "time"
-kind_text Text = codes "text"
-
--- ` or `, and the cell that an empty one stands for; only a text may be empty itself
-abbrev pub IsEmptyText : Empty → Kind → List ℕ → Type 0
-IsEmptyText Refused kind text = text ≡ []
-IsEmptyText Kept kind text = (kind ≡ Text) × (text ≡ codes " or \"\"")
-IsEmptyText (Number n) kind text = (cell : List ℕ) × StandsAs (record { kind = kind; empty = Refused }) [] n cell × (text ≡ codes " or " ++ cell)
-
--- a column's line: two spaces, its name, a space, and the word for its kind
-abbrev pub IsColumnText : List ℕ → Column → List ℕ → Type 0
-IsColumnText name column text = (rest : List ℕ) × IsEmptyText column.empty column.kind rest × (text ≡ codes "  " ++ (name ++ (codes " " ++ (kind_text column.kind ++ (rest ++ codes "\n")))))
-
 -- the lines of columns, each with its name
 unfoldable pub AreColumnsText : List (List ℕ) → List Column → List ℕ → Type 0
 AreColumnsText [] [] text = text ≡ []
 AreColumnsText [] (column ∷ columns) text = ⊥
 AreColumnsText (name ∷ names) [] text = ⊥
-AreColumnsText (name ∷ names) (column ∷ columns) text = (line : List ℕ) × (lines : List ℕ) × IsColumnText name column line × AreColumnsText names columns lines × (text ≡ line ++ lines)
+AreColumnsText (name ∷ names) (column ∷ columns) text =
+    (line : List ℕ) × (lines : List ℕ) × IsColumnText name column line × AreColumnsText names columns lines × (text ≡ line ++ lines)
 
 -- the names in the header row
 abbrev pub names_of : Table → List (List ℕ)
@@ -57,7 +36,8 @@ IsTableText word table text = (lines : List ℕ) × AreColumnsText (names_of tab
 
 unfoldable pub AreTablesText : List ℕ → List Table → List ℕ → Type 0
 AreTablesText word [] text = text ≡ []
-AreTablesText word (table ∷ tables) text = (first : List ℕ) × (rest : List ℕ) × IsTableText word table first × AreTablesText word tables rest × (text ≡ first ++ rest)
+AreTablesText word (table ∷ tables) text =
+    (first : List ℕ) × (rest : List ℕ) × IsTableText word table first × AreTablesText word tables rest × (text ≡ first ++ rest)
 
 abbrev pub constant_text : Constant → List ℕ
 constant_text constant = codes "constant " ++ (constant.name.items ++ (codes " = \"" ++ (constant.text.items ++ codes "\"\n")))
@@ -68,4 +48,6 @@ constants_text (constant ∷ constants) = constant_text constant ++ constants_te
 
 -- the text of a schema: the inputs, the outputs, and the constants
 abbrev pub IsSchemaText : Schema → List ℕ → Type 0
-IsSchemaText schema text = (inputs : List ℕ) × (outputs : List ℕ) × AreTablesText (codes "input ") schema.inputs.items inputs × AreTablesText (codes "output ") schema.outputs.items outputs × (text ≡ inputs ++ (outputs ++ constants_text schema.constants.items))
+IsSchemaText schema text = (inputs : List ℕ) × (outputs : List ℕ)
+    × AreTablesText (codes "input ") schema.inputs.items inputs × AreTablesText (codes "output ") schema.outputs.items outputs
+    × (text ≡ inputs ++ (outputs ++ constants_text schema.constants.items))

@@ -1,20 +1,23 @@
 //! What was read of a schema so far.
 
-ghost use Rattle.std.specs.Prelude.{◌≡◌, ◌≢◌, ◌<◌, ◌++◌, true, false, length, List, [], codes, map, IfErr, IfNone, IfOk, IfSome, None, Ok, Some, ℕ};
+ghost use Rattle.std.specs.Prelude.{◌≡◌, ◌≢◌, ◌<◌, ◌++◌, true, false, length, List, [], codes, map, IfOk, None, Ok, Some, ℕ};
 ghost use Rattle.std.specs.Option.{option_map};
 ghost use Rattle.schema.specs.Drafts.{IsBegun, IsDraft, IsNew, IsOpenTable};
-ghost use Rattle.schema.specs.Lines.{epoched, has_column};
-ghost use Rattle.schema.specs.Schemas.{IsColumn, IsEpochsOf, IsTable, Lacks, is_by, parts_of, said};
-ghost use Rattle.schema.specs.Steps.{MakesEnded, MakesParts, MakesState, MakesTable, MayAddConstant, MayBeginInput, MayBeginOutput, MayClose, MayEnd, MayGrow, MayHaveColumn, Opened, State, after, begun, begun_by, begun_epochs, closed, grown, opened_of, place_in, put, state_of, with_by, with_constant};
+ghost use Rattle.schema_lines.specs.Lines.{epoched, has_column};
+ghost use Rattle.schema_lines.specs.Words.{IsColumn, Lacks};
+ghost use Rattle.schema.specs.Schemas.{IsEpochsOf, IsTable, is_by, parts_of, said};
+ghost use Rattle.schema.specs.Steps.{MakesEnded, MakesParts, MakesState, MakesTable, MayAddConstant, MayBeginInput, MayBeginOutput};
+ghost use Rattle.schema.specs.Steps.{MayClose, MayEnd, MayGrow, MayHaveColumn, Opened, State};
+ghost use Rattle.schema.specs.Steps.{after, begun, begun_by, begun_epochs, closed, grown, opened_of, place_in, put, state_of, with_by, with_constant};
 ghost use Rattle.schema.specs.Text.{names_of};
-ghost use Rattle.schema.specs.declared.lines.LineError.TheVariants as error;
+ghost use Rattle.schema_lines.specs.declared.lines.LineError.TheVariants as error;
 ghost use Rattle.schema.specs.declared.tables.Epochs.TheVariants.{By, One};
 
-use crate::lines::{HeadEpochs, LineError};
-use crate::names::{is_constant, is_header, is_name, is_table};
-use crate::refusal::{Fault, SchemaRefusal};
+use crate::names::{is_constant, is_table};
+use crate::refusal::SchemaRefusal;
 use crate::tables::{Constant, Epochs, Schema, Table};
 use csv_cells::{Column, Kind};
+use schema_lines::{Fault, HeadEpochs, LineError, is_header, is_name, named_column, place_of};
 use std::alloc::Global;
 
 /// The most columns of a table: a record has as many fields.
@@ -51,23 +54,11 @@ fn new_table(alloc: Global, name: &[u8], epochs: Epochs) -> Result<Table, LineEr
     })
 }
 
-/// The place of a column by its name in the header row.
-fn place_of(headers: &[Vec<u8>], name: &[u8]) -> Option<usize>
-    ensures found { IfSome result (λ i. i ≡ place_in name.now (map (λ v. v.items) headers.now)) }
-    ensures none { IfNone result (place_in name.now (map (λ v. v.items) headers.now) ≡ length headers.now) }
-{
-    for i in 0..headers.len() {
-        if headers[i].as_slice() == name {
-            return Some(i);
-        }
-    }
-    None
-}
-
 /// The epochs of a table that has them by the column of that name. A column of texts has no order.
 fn epochs_by(table: &Table, name: &[u8]) -> Result<Epochs, Fault>
     ensures right { IfOk result (IsEpochsOf table.now.columns.items) }
-    ensures made { let place = place_in name.now (names_of table.now) in place < length (names_of table.now) → IsEpochsOf table.now.columns.items (By place) → result ≡ Ok (By place) }
+    ensures made { let place = place_in name.now (names_of table.now) in
+        place < length (names_of table.now) → IsEpochsOf table.now.columns.items (By place) → result ≡ Ok (By place) }
 {
     let Some(place) = place_of(table.headers.as_slice(), name) else {
         return Err(Fault::BadEpochs);
@@ -127,7 +118,8 @@ pub fn end_open(draft: Draft) -> Result<Schema, SchemaRefusal>
 
 /// Adds an input that has ended.
 fn add_input(schema: Schema, table: Table) -> Result<Schema, SchemaRefusal>
-    ensures right { IsBegun schema → IsTable (said table) → IsNew table.name.items (map (λ t. t.name) (map said schema.inputs.items)) → IfOk result IsBegun }
+    ensures right { IsBegun schema → IsTable (said table) → IsNew table.name.items (map (λ t. t.name) (map said schema.inputs.items))
+        → IfOk result IsBegun }
     ensures made { MakesParts (put false (said table) (parts_of schema)) result }
 {
     let mut schema = schema;
@@ -137,7 +129,8 @@ fn add_input(schema: Schema, table: Table) -> Result<Schema, SchemaRefusal>
 
 /// Adds an output that has ended.
 fn add_output(schema: Schema, table: Table) -> Result<Schema, SchemaRefusal>
-    ensures right { IsBegun schema → IsTable (said table) → IsNew table.name.items (map (λ t. t.name) (map said schema.outputs.items)) → table.epochs ≡ One → IfOk result IsBegun }
+    ensures right { IsBegun schema → IsTable (said table) → IsNew table.name.items (map (λ t. t.name) (map said schema.outputs.items))
+        → table.epochs ≡ One → IfOk result IsBegun }
     ensures made { MakesParts (put true (said table) (parts_of schema)) result }
 {
     let mut schema = schema;
@@ -176,7 +169,8 @@ pub fn take_column(
     column: Column,
 ) -> Result<Draft, LineError>
     ensures right { IsDraft draft → Lacks 10 name.now → ((front : List ℕ) → name.now ≢ front ++ codes " or") → IsColumn column → IfOk result IsDraft }
-    ensures made { MayHaveColumn (option_map opened_of draft.last) name.now → MakesState (after (state_of draft) (has_column name.now column)) result }
+    ensures made { MayHaveColumn (option_map opened_of draft.last) name.now
+        → MakesState (after (state_of draft) (has_column name.now column)) result }
 {
     let Draft { schema, last } = draft;
     let Some(last) = last else {
@@ -213,17 +207,6 @@ fn begun_epochs(epochs: HeadEpochs<'_>) -> Epochs
     }
 }
 
-/// The column by which an input that begins has its epochs.
-fn named_column(alloc: Global, epochs: HeadEpochs<'_>) -> Result<Option<Vec<u8>>, LineError>
-    ensures made { IfOk result (λ by. option_map (λ v. v.items) by ≡ begun_by (epoched epochs.entry)) }
-    ensures memory { IfErr result (λ e. e ≡ error.NoMemory) }
-{
-    match epochs {
-        HeadEpochs::By(column) => Ok(Some(Vec::from_slice(alloc, column)?)),
-        HeadEpochs::One | HeadEpochs::Every => Ok(None),
-    }
-}
-
 /// Begins an input.
 pub fn begin_input(
     alloc: Global,
@@ -233,7 +216,8 @@ pub fn begin_input(
     line: u64,
 ) -> Result<Draft, LineError>
     ensures right { IsBegun schema → IfOk result IsDraft }
-    ensures made { let opened : Opened = record { table = begun name.now (begun_epochs (epoched epochs.entry)); by = begun_by (epoched epochs.entry); output = false } in
+    ensures made { let wanted = epoched epochs.entry in
+        let opened : Opened = record { table = begun name.now (begun_epochs wanted); by = begun_by wanted; output = false } in
         MayBeginInput (parts_of schema) name.now → MakesState (record { parts = parts_of schema; opened = Some opened }) result }
 {
     if !schema.outputs.is_empty() || !schema.constants.is_empty() || !is_name(name) {
@@ -288,7 +272,8 @@ pub fn add_constant(
     text: &[u8],
 ) -> Result<Draft, LineError>
     ensures right { IsBegun schema → Lacks 10 text.now → IfOk result IsDraft }
-    ensures made { MayAddConstant (parts_of schema) name.now text.now → MakesState (record { parts = with_constant (parts_of schema) name.now text.now; opened = None }) result }
+    ensures made { MayAddConstant (parts_of schema) name.now text.now
+        → MakesState (record { parts = with_constant (parts_of schema) name.now text.now; opened = None }) result }
 {
     if !is_name(name) {
         return Err(LineError::Fault(Fault::Malformed));

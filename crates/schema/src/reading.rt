@@ -1,19 +1,20 @@
 //! Reads a schema.
 
-ghost use Rattle.std.specs.Prelude.{◌≡◌, ◌≢◌, ◌<◌, ◌++◌, ◌∷◌, true, false, ℕ, List, length, IfErr, IfOk};
+ghost use Rattle.std.specs.Prelude.{◌≡◌, ◌≢◌, true, false, ℕ, List, IfErr, IfOk};
 ghost use Rattle.schema.specs.Drafts.{IsBegun, IsDraft};
-ghost use Rattle.schema.specs.Lines.{Event, IsLine, IsProper, IsSaid, event_of};
-ghost use Rattle.schema.specs.Schemas.{IsRefusal, IsSchema, Lacks, parts_of};
+ghost use Rattle.schema_lines.specs.Lines.{Event, IsLine, IsProper, IsSaid, event_of};
+ghost use Rattle.schema_lines.specs.Words.{Lacks};
+ghost use Rattle.schema.specs.Schemas.{IsRefusal, IsSchema, parts_of};
 ghost use Rattle.schema.specs.Steps.{Allowed, MakesDraft, MakesLines, MakesState, State, after, state_of};
 ghost use Rattle.schema.specs.Text.{IsSchemaText};
 ghost use Rattle.schema.specs.declared.tables.Schema.{Schema};
 
 use crate::draft::{Draft, add_constant, begin_input, begin_output, end_open, take_column};
 use crate::epochs::have_epochs;
-use crate::lines::{Line, LineError, around_first, read_line};
-use crate::refusal::{Fault, SchemaRefusal};
+use crate::refusal::SchemaRefusal;
 use crate::tables::Schema;
 use crate::writing::push_schema;
+use schema_lines::{Fault, Line, LineError, cut_line, read_line};
 use std::alloc::{AllocError, Global};
 
 /// What a line makes of a draft, or why it is refused.
@@ -53,24 +54,13 @@ fn take_said(alloc: Global, draft: Draft, said: Line<'_>, line: u64) -> Result<D
 /// Adds a line.
 fn take_line(alloc: Global, draft: Draft, text: &[u8], line: u64) -> Result<Draft, SchemaRefusal>
     ensures right { IsDraft draft → Lacks 10 text.now → IfOk result IsDraft }
-    ensures made { (event : Event) → IsProper event → IsLine event text.now → Allowed (state_of draft) event → MakesDraft (after (state_of draft) event) result }
+    ensures made { (event : Event) → IsProper event → IsLine event text.now → Allowed (state_of draft) event
+        → MakesDraft (after (state_of draft) event) result }
 {
     match read_line(alloc, text) {
         Ok(said) => take_said(alloc, draft, said, line),
         Err(LineError::Fault(fault)) => Err(SchemaRefusal::At { fault, line }),
         Err(LineError::NoMemory) => Err(SchemaRefusal::NoMemory),
-    }
-}
-
-/// The first line, and what comes after its line feed.
-fn cut_line(text: &[u8]) -> (&[u8], &[u8])
-    ensures line { Lacks 10 result.0.now }
-    ensures cut { (line rest : List ℕ) → Lacks 10 line → text.now ≡ line ++ 10 ∷ rest → (result.0.now ≡ line) × (result.1.now ≡ rest) }
-    ensures shorter { 0 < length text.now → length result.1.now < length text.now }
-{
-    match around_first(text, b'\n') {
-        Some((line, rest)) => (line, rest),
-        None => (text, &text[..0]),
     }
 }
 

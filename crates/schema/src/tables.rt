@@ -3,7 +3,7 @@
 use csv_cells::Column;
 
 /// In which epochs the rows of an input are.
-#[derive(Clone, Copy, PartialEq, Eq)]
+#[derive(Clone, Copy)]
 pub enum Epochs {
     /// All in the only one.
     One,

@@ -2,75 +2,15 @@
 
 ghost use Rattle.std.specs.Prelude.{◌≡◌, ◌++◌, length, IfOk, List, OnOk, codes, map, true, ℕ};
 ghost use Rattle.std.specs.List.{AllByRecursion};
-ghost use Rattle.schema.specs.Schemas.{IsColumn, IsEmptyOf, IsSchema, IsTable, said};
-ghost use Rattle.schema.specs.Text.{AreColumnsText, AreTablesText, IsColumnText, IsEmptyText, IsSchemaText, IsTableText, constant_text, constants_text, epochs_text, head_text, kind_text};
+ghost use Rattle.schema_lines.specs.Words.{IsColumn};
+ghost use Rattle.schema.specs.Schemas.{IsSchema, IsTable, said};
+ghost use Rattle.schema.specs.Text.{AreColumnsText, AreTablesText, IsSchemaText, IsTableText};
+ghost use Rattle.schema.specs.Text.{constant_text, constants_text, epochs_text, head_text};
 
 use crate::tables::{Constant, Epochs, Schema, Table};
-use csv_cells::{Column, Dictionary, Empty, Kind, write_cell};
-use itoa::Buffer;
+use csv_cells::Column;
+use schema_lines::push_column;
 use std::alloc::{AllocError, Global};
-
-/// Appends the word for a kind.
-fn push_kind(out: &mut Vec<u8>, kind: Kind) -> Result<(), AllocError>
-    ensures { OnOk result (out.new.items ≡ out.old.items ++ kind_text kind) }
-{
-    match kind {
-        Kind::Int => out.extend_from_slice(b"int"),
-        Kind::Date => out.extend_from_slice(b"date"),
-        Kind::Time => out.extend_from_slice(b"time"),
-        Kind::Text => out.extend_from_slice(b"text"),
-        Kind::Decimal(places) => {
-            let mut buffer = Buffer::new();
-            out.extend_from_slice(b"decimal(")?;
-            out.extend_from_slice(buffer.format(places).as_bytes())?;
-            out.extend_from_slice(b")")
-        }
-    }
-}
-
-/// Appends what an empty cell stands for, and says whether that can be written.
-fn push_empty(out: &mut Vec<u8>, alloc: Global, column: Column) -> Result<bool, AllocError>
-    ensures right { IsEmptyOf column.kind column.empty → IfOk result (λ b. b ≡ true) }
-    ensures text { IfOk result (λ b. b ≡ true → (text : List ℕ) × IsEmptyText column.empty column.kind text × (out.new.items ≡ out.old.items ++ text)) }
-{
-    match column.empty {
-        Empty::Refused => Ok(true),
-        Empty::Kept => {
-            out.extend_from_slice(b" or \"\"")?;
-            Ok(column.kind == Kind::Text)
-        }
-        Empty::Number(number) => {
-            out.extend_from_slice(b" or ")?;
-            let plain = Column {
-                kind: column.kind,
-                empty: Empty::Refused,
-            };
-            let none = Dictionary::new(alloc);
-            write_cell(plain, &none, number, out)
-        }
-    }
-}
-
-/// Appends the line of a column, and says whether it has one.
-fn push_column(
-    out: &mut Vec<u8>,
-    alloc: Global,
-    name: &[u8],
-    column: Column,
-) -> Result<bool, AllocError>
-    ensures right { IsEmptyOf column.kind column.empty → IfOk result (λ b. b ≡ true) }
-    ensures text { IfOk result (λ b. b ≡ true → (text : List ℕ) × IsColumnText name.now column text × (out.new.items ≡ out.old.items ++ text)) }
-{
-    out.extend_from_slice(b"  ")?;
-    out.extend_from_slice(name)?;
-    out.extend_from_slice(b" ")?;
-    push_kind(out, column.kind)?;
-    if !push_empty(out, alloc, column)? {
-        return Ok(false);
-    }
-    out.extend_from_slice(b"\n")?;
-    Ok(true)
-}
 
 /// Appends in which epochs the rows of a table are, whose columns have these names.
 fn push_epochs(out: &mut Vec<u8>, epochs: Epochs, names: &[Vec<u8>]) -> Result<(), AllocError>
@@ -107,7 +47,8 @@ fn push_columns(
     columns: &[Column],
 ) -> Result<bool, AllocError>
     ensures right { length names.now ≡ length columns.now → AllByRecursion IsColumn columns.now → IfOk result (λ b. b ≡ true) }
-    ensures text { IfOk result (λ b. b ≡ true → (text : List ℕ) × AreColumnsText (map (λ v. v.items) names.now) columns.now text × (out.new.items ≡ out.old.items ++ text)) }
+    ensures text { IfOk result (λ b. b ≡ true → (text : List ℕ) × AreColumnsText (map (λ v. v.items) names.now) columns.now text
+        × (out.new.items ≡ out.old.items ++ text)) }
 {
     if names.len() != columns.len() {
         return Ok(false);
@@ -173,8 +114,8 @@ fn push_constants(out: &mut Vec<u8>, constants: &[Constant]) -> Result<(), Alloc
     Ok(())
 }
 
-/// Appends the text of a schema, and says whether it has one: not if a name or a number of a column is missing, or can't be written. Each right schema
-/// has one.
+/// Appends the text of a schema, and says whether it has one: not if a name or a number of a column is missing, or can't be written. Each right
+/// schema has one.
 pub fn push_schema(out: &mut Vec<u8>, alloc: Global, schema: &Schema) -> Result<bool, AllocError>
     ensures right { IsSchema schema.now → IfOk result (λ b. b ≡ true) }
     ensures text { IfOk result (λ b. b ≡ true → (text : List ℕ) × IsSchemaText schema.now text × (out.new.items ≡ out.old.items ++ text)) }

@@ -1,23 +1,9 @@
--- What is read of the texts of a command.
-use Rattle.std.specs.Prelude.{◌≡◌, ℕ, List, [], ◌∷◌, ◌++◌, Contains, Option, Some, None, IfSome}
-use Rattle.schema.specs.Text.{IsSchemaText}
+-- What is read of the texts of a command, by a schema.
+use Rattle.std.specs.Prelude.{◌≡◌, ℕ, List, [], ◌∷◌, Contains, Option, Some, None}
 use Rattle.schema.specs.declared.tables.Schema.{Schema}
 use Rattle.schema.specs.declared.tables.Table.{Table}
+pub use Rattle.table_files.specs.Read.{AreNamed, AreTexts, IsKnownAs, IsReadSchema}
 use Rattle.tables.specs.Inputs.{IsInput}
-
--- these are the bytes of a text, where they are known
-abbrev pub IsKnownAs : (known : Option (List ℕ)) → (bytes : List ℕ) → Type 0
-IsKnownAs known bytes = IfSome known (λ b. bytes ≡ b)
-
--- these are the bytes of the texts of these names
-unfoldable pub AreTexts : (known : List ℕ → Option (List ℕ)) → (names texts : List (List ℕ)) → Type 0
-AreTexts known [] texts = texts ≡ []
-AreTexts known (name ∷ names) [] = ⊥
-AreTexts known (name ∷ names) (text ∷ texts) = IsKnownAs (known name) text × AreTexts known names texts
-
--- this is the schema of a text
-abbrev pub IsReadSchema : (known : Option (List ℕ)) → Schema → Type 0
-IsReadSchema known schema = (text : List ℕ) × IsKnownAs known text × IsSchemaText schema text
 
 -- the output that is asked for: the one of that name, or the only one
 abbrev pub IsOutput : (outputs : List Table) → (name : Option (List ℕ)) → Table → Type 0
@@ -27,9 +13,3 @@ IsOutput outputs None table = outputs ≡ table ∷ []
 -- the input text of the files of these names, by a schema and the texts of a dictionary
 abbrev pub IsInputOf : (known : List ℕ → Option (List ℕ)) → Schema → (names : List (List ℕ)) → (texts : List (List ℕ)) → (out : List ℕ) → Type 0
 IsInputOf known schema names texts out = (files : List (List ℕ)) × AreTexts known names files × IsInput schema files texts out
-
--- each table's file is that of a word `NAME=FILE`
-unfoldable pub AreNamed : (tables : List Table) → (words paths : List (List ℕ)) → Type 0
-AreNamed [] words paths = paths ≡ []
-AreNamed (table ∷ tables) words [] = ⊥
-AreNamed (table ∷ tables) words (path ∷ paths) = Contains words (table.name.items ++ 61 ∷ path) × AreNamed tables words paths

@@ -4,15 +4,14 @@ ghost use Rattle.std.specs.Prelude.{◌≡◌, ◌<◌, ◌↔◌, ◌⊎◌, If
 ghost use Rattle.collector.specs.Watching.{inner_of};
 ghost use Rattle.table_commands.specs.Written.{IsOfTables, IsTablesWord, IsWriteFault};
 
-use crate::decoding::{Decoding, decode_answer};
-use crate::drafts::Drafts;
+use crate::decoding::decode_answer;
 use crate::encoding::{Encoding, encode_files};
-use crate::fault::Fault;
-use crate::line::{Asked, LineError, read_words};
-use crate::listing::{Listing, list_kinds};
+use crate::listing::list_kinds;
 use collector::{Sources, Watched};
 use std::alloc::Global;
 use std::io::Write;
+use table_files::{Drafts, Fault};
+use table_words::{Asked, LineError, read_words};
 
 /// Whether a word is `encode`, `decode` or `kinds`.
 fn is_command(word: &str) -> bool
@@ -62,27 +61,8 @@ fn obey<'a, S: Sources<'a>, D: Drafts, W: Write>(
             };
             encode_files(alloc, sources, drafts, asked, out)
         }
-        Asked::Decode {
-            schema,
-            answer,
-            dictionary,
-            output,
-        } => {
-            let asked = Decoding {
-                schema: *schema,
-                answer: *answer,
-                dictionary: *dictionary,
-                output: *output,
-            };
-            decode_answer(alloc, sources, asked, out)
-        }
-        Asked::Kinds { schema, query } => {
-            let asked = Listing {
-                schema: *schema,
-                query: *query,
-            };
-            list_kinds(alloc, sources, asked, out)
-        }
+        Asked::Decode(asked) => decode_answer(alloc, sources, *asked, out),
+        Asked::Kinds(asked) => list_kinds(alloc, sources, *asked, out),
     }
 }
 
@@ -115,8 +95,25 @@ pub fn refuse<E: Write>(error: LineError, err: &mut E) -> u8
     }
 }
 
-/// Answers a line of `encode`, `decode` or `kinds`, whose first word is the program's own, and gives the status: 0 done, 2 command line, 3 schema or query, 4 a file's text,
-/// 5 memory, 6 file.
+/// Does what is asked for, reports a fault, and gives the status.
+fn answer<'a, S: Sources<'a>, D: Drafts, W: Write, E: Write>(
+    alloc: Global,
+    sources: &S,
+    drafts: &D,
+    asked: &Asked<'a>,
+    out: &mut Watched<W>,
+    err: &mut E,
+) -> u8
+    ensures { ((result ≡ 0) ⊎ (result ≡ 6)) ⊎ (W.contents (inner_of out.new) ≡ W.contents (inner_of out.old)) }
+{
+    match obey(alloc, sources, drafts, asked, out) {
+        Ok(()) => 0,
+        Err(fault) => report(alloc, &fault, err),
+    }
+}
+
+/// Answers a line of `encode`, `decode` or `kinds`, whose first word is the program's own, and gives the status: 0 done, 2 command line, 3 schema or
+/// query, 4 a file's text, 5 memory, 6 file.
 pub fn answer_tables<'a, S: Sources<'a>, D: Drafts, W: Write, E: Write>(
     alloc: Global,
     sources: &S,
@@ -132,8 +129,5 @@ pub fn answer_tables<'a, S: Sources<'a>, D: Drafts, W: Write, E: Write>(
         Ok(None) => return 2,
         Err(error) => return refuse(error, err),
     };
-    match obey(alloc, sources, drafts, &asked, out) {
-        Ok(()) => 0,
-        Err(fault) => report(alloc, &fault, err),
-    }
+    answer(alloc, sources, drafts, &asked, out, err)
 }

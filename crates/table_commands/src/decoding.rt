@@ -5,23 +5,17 @@ ghost use Rattle.collector.specs.Watching.{inner_of};
 ghost use Rattle.table_commands.specs.Read.{IsOutput};
 ghost use Rattle.table_commands.specs.Written.{IsWriteFault};
 
-use crate::fault::{Fault, WordFault, table_fault};
-use crate::files::{dictionary_of, needs_dictionary, read_file, schema_of};
-use collector::{Sources, Watched, put};
+use collector::{Sources, Watched};
 use csv_cells::Dictionary;
 use schema::{Schema, Table};
 use std::alloc::Global;
 use std::io::Write;
+use table_files::{
+    Fault, WordFault, dictionary_of, needs_dictionary, read_file, schema_of, table_fault,
+    write_text,
+};
+use table_words::Decoding;
 use tables::{decode, has_epochs};
-
-/// What `decode` is asked for.
-#[derive(Clone, Copy)]
-pub struct Decoding<'a> {
-    pub schema: &'a str,
-    pub answer: &'a str,
-    pub dictionary: Option<&'a str>,
-    pub output: Option<&'a str>,
-}
 
 /// The table of that name.
 fn named_table<'s>(tables: &'s [Table], name: &[u8]) -> Option<&'s Table>
@@ -60,20 +54,17 @@ fn known_texts<'a, S: Sources<'a>>(
     }
 }
 
-/// The CSV file of an answer.
-fn decoded<'a, S: Sources<'a>>(
+/// The CSV file of an answer, by a schema.
+fn decoded_by<'a, S: Sources<'a>>(
     alloc: Global,
     sources: &S,
+    schema: &Schema,
     asked: Decoding<'a>,
 ) -> Result<Vec<u8>, Fault<'a>> {
-    if asked.schema == "-" && asked.answer == "-" {
-        return Err(Fault::Words(WordFault::InputTwice));
-    }
-    let schema = schema_of(alloc, sources, asked.schema)?;
-    let Some(table) = output_of(&schema, asked.output) else {
+    let Some(table) = output_of(schema, asked.output) else {
         return Err(Fault::Words(WordFault::NoOutput));
     };
-    let dictionary = known_texts(alloc, sources, &schema, asked.dictionary)?;
+    let dictionary = known_texts(alloc, sources, schema, asked.dictionary)?;
     let answer = read_file(alloc, sources, asked.answer)?;
     match decode(
         alloc,
@@ -90,6 +81,19 @@ fn decoded<'a, S: Sources<'a>>(
     }
 }
 
+/// The CSV file of an answer.
+fn decoded<'a, S: Sources<'a>>(
+    alloc: Global,
+    sources: &S,
+    asked: Decoding<'a>,
+) -> Result<Vec<u8>, Fault<'a>> {
+    if asked.schema == "-" && asked.answer == "-" {
+        return Err(Fault::Words(WordFault::InputTwice));
+    }
+    let schema = schema_of(alloc, sources, asked.schema)?;
+    decoded_by(alloc, sources, &schema, asked)
+}
+
 /// Writes the CSV file of an answer. At a fault nothing is written, unless the writer failed.
 pub fn decode_answer<'a, S: Sources<'a>, W: Write>(
     alloc: Global,
@@ -100,8 +104,5 @@ pub fn decode_answer<'a, S: Sources<'a>, W: Write>(
     ensures { IfErr result (λ fault. IsWriteFault fault ⊎ (W.contents (inner_of out.new) ≡ W.contents (inner_of out.old))) }
 {
     let text = decoded(alloc, sources, asked)?;
-    match put(out, text.as_slice()) {
-        Ok(()) => Ok(()),
-        Err(_) => Err(Fault::Write),
-    }
+    write_text(text.as_slice(), out)
 }

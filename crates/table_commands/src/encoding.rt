@@ -6,17 +6,15 @@ ghost use Rattle.csv_cells.specs.Texts.{texts_of};
 ghost use Rattle.table_commands.specs.Read.{IsInputOf};
 ghost use Rattle.table_commands.specs.Written.{IsWriteFault};
 
-use crate::drafts::Drafts;
-use crate::fault::{Fault, WordFault, table_fault};
-use crate::files::{
-    dictionary_of, is_input_twice, needs_dictionary, paths_of, read_files, schema_of,
-};
-use crate::keeping::{begin_dictionary, grown_text, write_with};
-use collector::{Sources, Watched, put};
+use collector::{Sources, Watched};
 use csv_cells::Dictionary;
 use schema::Schema;
 use std::alloc::Global;
 use std::io::Write;
+use table_files::{
+    Drafts, Fault, WordFault, begin_dictionary, dictionary_of, grown_text, is_input_twice,
+    needs_dictionary, paths_of, read_files, schema_of, table_fault, write_text, write_with,
+};
 use tables::encode;
 
 /// What `encode` is asked for.
@@ -89,7 +87,47 @@ fn encode_with<'a, S: Sources<'a>, D: Drafts, W: Write>(
     }
 }
 
-/// Writes the input text of the files, and then keeps the dictionary. At a fault nothing is written, unless the writer or the dictionary's file failed.
+/// Encodes without a dictionary.
+fn encode_without<'a, S: Sources<'a>, W: Write>(
+    alloc: Global,
+    sources: &S,
+    schema: &Schema,
+    paths: &[&'a str],
+    out: &mut Watched<W>,
+) -> Result<(), Fault<'a>>
+    ensures { IfErr result (λ fault. IsWriteFault fault ⊎ (W.contents (inner_of out.new) ≡ W.contents (inner_of out.old))) }
+{
+    if needs_dictionary(schema) {
+        return Err(Fault::Words(WordFault::NoDictionary));
+    }
+    let mut none = Dictionary::new(alloc);
+    let text = input_text(alloc, sources, schema, paths, &mut none)?;
+    write_text(text.as_slice(), out)
+}
+
+/// Encodes by a schema.
+fn encode_by<'a, S: Sources<'a>, D: Drafts, W: Write>(
+    alloc: Global,
+    sources: &S,
+    drafts: &D,
+    schema: &Schema,
+    asked: Encoding<'a, '_>,
+    out: &mut Watched<W>,
+) -> Result<(), Fault<'a>>
+    ensures { IfErr result (λ fault. IsWriteFault fault ⊎ (W.contents (inner_of out.new) ≡ W.contents (inner_of out.old))) }
+{
+    let paths = paths_of(alloc, schema, asked.files)?;
+    if is_input_twice(&[asked.schema], paths.as_slice()) {
+        return Err(Fault::Words(WordFault::InputTwice));
+    }
+    match asked.dictionary {
+        Some(name) => encode_with(alloc, sources, drafts, schema, paths.as_slice(), name, out),
+        None => encode_without(alloc, sources, schema, paths.as_slice(), out),
+    }
+}
+
+/// Writes the input text of the files, and then keeps the dictionary. At a fault nothing is written, unless the writer or the dictionary's file
+/// failed.
 pub fn encode_files<'a, S: Sources<'a>, D: Drafts, W: Write>(
     alloc: Global,
     sources: &S,
@@ -100,20 +138,5 @@ pub fn encode_files<'a, S: Sources<'a>, D: Drafts, W: Write>(
     ensures { IfErr result (λ fault. IsWriteFault fault ⊎ (W.contents (inner_of out.new) ≡ W.contents (inner_of out.old))) }
 {
     let schema = schema_of(alloc, sources, asked.schema)?;
-    let paths = paths_of(alloc, &schema, asked.files)?;
-    if is_input_twice(&[asked.schema], paths.as_slice()) {
-        return Err(Fault::Words(WordFault::InputTwice));
-    }
-    if let Some(name) = asked.dictionary {
-        return encode_with(alloc, sources, drafts, &schema, paths.as_slice(), name, out);
-    }
-    if needs_dictionary(&schema) {
-        return Err(Fault::Words(WordFault::NoDictionary));
-    }
-    let mut none = Dictionary::new(alloc);
-    let text = input_text(alloc, sources, &schema, paths.as_slice(), &mut none)?;
-    match put(out, text.as_slice()) {
-        Ok(()) => Ok(()),
-        Err(_) => Err(Fault::Write),
-    }
+    encode_by(alloc, sources, drafts, &schema, asked, out)
 }

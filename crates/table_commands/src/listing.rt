@@ -4,20 +4,30 @@ ghost use Rattle.std.specs.Prelude.{◌≡◌, ◌⊎◌, IfErr};
 ghost use Rattle.collector.specs.Watching.{inner_of};
 ghost use Rattle.table_commands.specs.Written.{IsWriteFault};
 
-use crate::fault::{Fault, WordFault};
-use crate::files::{read_file, schema_of};
 use bumpalo::Bump;
-use collector::{Sources, Watched, put};
+use collector::{Sources, Watched};
 use query_kinds::kinds_text;
 use record_core::Refusal;
+use schema::Schema;
 use std::alloc::Global;
 use std::io::Write;
+use table_files::{Fault, WordFault, read_file, schema_of, write_text};
+use table_words::Listing;
 
-/// What `kinds` is asked for.
-#[derive(Clone, Copy)]
-pub struct Listing<'a> {
-    pub schema: &'a str,
-    pub query: &'a str,
+/// The list of a query's fields, by a schema.
+fn listed_by<'a, S: Sources<'a>>(
+    alloc: Global,
+    sources: &S,
+    schema: &Schema,
+    query: &'a str,
+) -> Result<Vec<u8>, Fault<'a>> {
+    let query = read_file(alloc, sources, query)?;
+    let arena = Bump::new(alloc);
+    match kinds_text(alloc, &arena, query.as_slice(), schema) {
+        Ok(text) => Ok(text),
+        Err(Refusal::NoMemory) => Err(Fault::NoMemory),
+        Err(Refusal::At { code, span }) => Err(Fault::Query(code, span)),
+    }
 }
 
 /// The list of the query's fields.
@@ -30,13 +40,7 @@ fn listed<'a, S: Sources<'a>>(
         return Err(Fault::Words(WordFault::InputTwice));
     }
     let schema = schema_of(alloc, sources, asked.schema)?;
-    let query = read_file(alloc, sources, asked.query)?;
-    let arena = Bump::new(alloc);
-    match kinds_text(alloc, &arena, query.as_slice(), &schema) {
-        Ok(text) => Ok(text),
-        Err(Refusal::NoMemory) => Err(Fault::NoMemory),
-        Err(Refusal::At { code, span }) => Err(Fault::Query(code, span)),
-    }
+    listed_by(alloc, sources, &schema, asked.query)
 }
 
 /// Writes what the fields of a query stand for. At a fault nothing is written, unless the writer failed.
@@ -49,8 +53,5 @@ pub fn list_kinds<'a, S: Sources<'a>, W: Write>(
     ensures { IfErr result (λ fault. IsWriteFault fault ⊎ (W.contents (inner_of out.new) ≡ W.contents (inner_of out.old))) }
 {
     let text = listed(alloc, sources, asked)?;
-    match put(out, text.as_slice()) {
-        Ok(()) => Ok(()),
-        Err(_) => Err(Fault::Write),
-    }
+    write_text(text.as_slice(), out)
 }

@@ -12,13 +12,15 @@ returns-clause-right c = λ so lacks.
     let text = c.args.text.now in
     let constants = c.args.schema.constants.items in
     let none : list_any (λ k. bytes_eq k.name.items name || bytes_eq k.text.items text) constants ≡ false =
-    ap (λ ks. list_any (λ k. bytes_eq k.name.items name || bytes_eq k.text.items text) ks) (sym c.as_slice.ensures.value) ∙ sym c.is_constant.ensures ∙ c.if-is_constant.false in
+    ap (λ ks. list_any (λ k. bytes_eq k.name.items name || bytes_eq k.text.items text) ks) (sym c.as_slice.ensures.value)
+    ∙ sym c.is_constant.ensures ∙ c.if-is_constant.false in
     let new = new-constant name text constants none in (
       record {
         inputs = so.inputs;
         outputs = so.outputs;
         no_epochs = so.no_epochs;
-        constants = constants-more constants c.push.new.self.items _ name text c.in_ok-push.ensures.items c.in_ok-name.ensures.items c.in_ok-text.ensures.items so.constants (c.is_name.ensures.0 c.if-not-is_name.false) lacks new.0 new.1;
+        constants = constants-more constants c.push.new.self.items _ name text c.in_ok-push.ensures.items c.in_ok-name.ensures.items
+            c.in_ok-text.ensures.items so.constants (c.is_name.ensures.0 c.if-not-is_name.false) lacks new.0 new.1;
       },
       tt,
     )
@@ -28,5 +30,6 @@ returns-then-is_constant-clause-made c = λ may.
     let name = c.args.name.now in
     let text = c.args.text.now in
     let free = constant-free name text c.args.schema.constants.items may.1 may.2 in
-    let none = c.is_constant.ensures ∙ ap (λ ks. list_any (λ k. bytes_eq k.name.items name || bytes_eq k.text.items text) ks) c.as_slice.ensures.value ∙ free in
+    let none = c.is_constant.ensures ∙ ap (λ ks. list_any (λ k. bytes_eq k.name.items name || bytes_eq k.text.items text) ks)
+    c.as_slice.ensures.value ∙ free in
     both_ways c.is_constant.result none c.if-is_constant.true

@@ -12,7 +12,8 @@ pub returns-clause-right : goal.returns-clause-right
 returns-clause-right c = λ so.
     let name = c.args.name.now in
     let tables = c.args.schema.inputs.items in
-    let none : list_any (λ t. bytes_eq t.name.items name) tables ≡ false = ap (λ ts. list_any (λ t. bytes_eq t.name.items name) ts) (sym c.as_slice.ensures.value) ∙ sym c.is_table.ensures ∙ c.if-is_table.false in
+    let none : list_any (λ t. bytes_eq t.name.items name) tables ≡ false =
+    ap (λ ts. list_any (λ t. bytes_eq t.name.items name) ts) (sym c.as_slice.ensures.value) ∙ sym c.is_table.ensures ∙ c.if-is_table.false in
     let N : List ℕ → Type 0 = λ n. IsNew n (map (λ t. t.name) (map said tables)) in (
       so,
       (

@@ -24,14 +24,17 @@ loop-rest-preserved c =
     record {
       right = c.in-Ok.ensures.right c.loop-rest.invariant.right c.cut_line.ensures.line;
       leads = λ s right is. step-taken c.cut_line.result.1.now (parts_of s) c.take_line.result c.in-Ok.next c.in-Ok.is
-          (leads-next (state_of c.loop-rest.draft) c.loop-rest.rest.now (parts_of s) c.cut_line.result.0.now c.cut_line.result.1.now c.take_line.result (c.loop-rest.invariant.leads s right is) filled c.cut_line.ensures.cut c.take_line.ensures.made);
+          (leads-next (state_of c.loop-rest.draft) c.loop-rest.rest.now
+          (parts_of s) c.cut_line.result.0.now c.cut_line.result.1.now c.take_line.result
+          (c.loop-rest.invariant.leads s right is) filled c.cut_line.ensures.cut c.take_line.ensures.made);
     }
 
 pub returns-in-Err-clause-made : goal.returns-in-Err-clause-made
 returns-in-Err-clause-made c = λ s right is.
     let filled : 0 < length c.loop-rest.rest.now = search rules in
     step-refused c.cut_line.result.1.now (parts_of s) c.take_line.result c.in-Err.refusal c.in-Err.is
-    (leads-next (state_of c.loop-rest.draft) c.loop-rest.rest.now (parts_of s) c.cut_line.result.0.now c.cut_line.result.1.now c.take_line.result (c.loop-rest.invariant.leads s right is) filled c.cut_line.ensures.cut c.take_line.ensures.made)
+    (leads-next (state_of c.loop-rest.draft) c.loop-rest.rest.now (parts_of s) c.cut_line.result.0.now c.cut_line.result.1.now
+    c.take_line.result (c.loop-rest.invariant.leads s right is) filled c.cut_line.ensures.cut c.take_line.ensures.made)
 
 pub returns-in-Ok-end_open-clause-made : goal.returns-in-Ok-end_open-clause-made
 returns-in-Ok-end_open-clause-made c = λ s right is.
@@ -43,4 +46,5 @@ pub returns-in-Err-end_open-clause-made : goal.returns-in-Err-end_open-clause-ma
 returns-in-Err-end_open-clause-made c = λ s right is.
     let none : length c.loop-rest.rest.now ≡ 0 = search rules in
     let end = leads-end (state_of c.loop-rest.draft) c.loop-rest.rest.now (parts_of s) none (c.loop-rest.invariant.leads s right is) in
-    ended-lines (parts_of s) c.in-Err-end_open.refusal (ended-parts _ (parts_of s) (Err c.in-Err-end_open.refusal) end.1 (c.in-Err-end_open.ensures.made end.0))
+    ended-lines (parts_of s) c.in-Err-end_open.refusal
+    (ended-parts _ (parts_of s) (Err c.in-Err-end_open.refusal) end.1 (c.in-Err-end_open.ensures.made end.0))

@@ -1,5 +1,5 @@
 use Rattle.std.proofs.Common.{None, sym, subst}
-use Rattle.schema.specs.Lines.{IsSaid, begins_input, begins_output, epoched, has_column, has_constant}
+use Rattle.schema_lines.specs.Lines.{IsSaid, begins_input, begins_output, epoched, has_column, has_constant}
 use Rattle.schema.specs.Schemas.{Parts}
 use Rattle.schema.specs.Steps.{MayAddConstant, MayBeginInput, MayBeginOutput, State, after, state_of}
 use Rattle.schema.proofs.ReadOn.{along-parts}
@@ -12,7 +12,8 @@ returns-in-Column-clause-right c = λ text so lacks is.
     c.told.ensures.right (c.take_column.ensures.right so (part-lacks 10 _ text here.0 lacks) here.1 here.2)
 
 pub returns-in-Column-clause-made : goal.returns-in-Column-clause-made
-returns-in-Column-clause-made c = rw c.in-Column.is (λ may. c.told.ensures.made (after (state_of c.args.draft) (has_column c.in-Column.name.now c.in-Column.column)) (c.take_column.ensures.made may))
+returns-in-Column-clause-made c = rw c.in-Column.is
+    (λ may. c.told.ensures.made (after (state_of c.args.draft) (has_column c.in-Column.name.now c.in-Column.column)) (c.take_column.ensures.made may))
 
 pub returns-in-Ok-clause-made : goal.returns-in-Ok-clause-made
 returns-in-Ok-clause-made c = rw c.in-Input.is (λ may.
@@ -38,4 +39,5 @@ returns-in-Ok-end_open-2-clause-made c = rw c.in-Constant.is (λ may.
     let B : Parts → Type 0 = λ p. MayAddConstant p c.in-Constant.name.now c.in-Constant.text.now in
     let F : Parts → State = λ p. after (record { parts = p; opened = None }) (has_constant c.in-Constant.name.now c.in-Constant.text.now) in
     let same = c.in-Ok-end_open-2.ensures.made may.0 in
-    c.told-in-Ok-end_open-2.ensures.made (F _) (along-parts F _ _ c.add_constant.result same (c.add_constant.ensures.made (subst B (sym same) may.1))))
+    c.told-in-Ok-end_open-2.ensures.made (F _) (along-parts F _ _ c.add_constant.result same
+    (c.add_constant.ensures.made (subst B (sym same) may.1))))

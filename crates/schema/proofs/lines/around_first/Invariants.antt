@@ -1,6 +1,0 @@
-use Rattle.std.proofs.Common.{take}
-use Rattle.schema.specs.Schemas.{Lacks}
-use Rattle.schema.proofs.lines.around_first.Given as goal
-
-abbrev pub invariant-loop-place : goal.invariant-loop-place
-invariant-loop-place l = Lacks l.byte (take l.place l.text)

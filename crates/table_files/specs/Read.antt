@@ -1,0 +1,25 @@
+-- What is read of the texts of a command.
+use Rattle.std.specs.Prelude.{◌≡◌, ℕ, List, [], ◌∷◌, ◌++◌, Contains, Option, IfSome}
+use Rattle.schema.specs.Text.{IsSchemaText}
+use Rattle.schema.specs.declared.tables.Schema.{Schema}
+use Rattle.schema.specs.declared.tables.Table.{Table}
+
+-- these are the bytes of a text, where they are known
+abbrev pub IsKnownAs : (known : Option (List ℕ)) → (bytes : List ℕ) → Type 0
+IsKnownAs known bytes = IfSome known (λ b. bytes ≡ b)
+
+-- these are the bytes of the texts of these names
+unfoldable pub AreTexts : (known : List ℕ → Option (List ℕ)) → (names texts : List (List ℕ)) → Type 0
+AreTexts known [] texts = texts ≡ []
+AreTexts known (name ∷ names) [] = ⊥
+AreTexts known (name ∷ names) (text ∷ texts) = IsKnownAs (known name) text × AreTexts known names texts
+
+-- this is the schema of a text
+abbrev pub IsReadSchema : (known : Option (List ℕ)) → Schema → Type 0
+IsReadSchema known schema = (text : List ℕ) × IsKnownAs known text × IsSchemaText schema text
+
+-- each table's file is that of a word `NAME=FILE`
+unfoldable pub AreNamed : (tables : List Table) → (words paths : List (List ℕ)) → Type 0
+AreNamed [] words paths = paths ≡ []
+AreNamed (table ∷ tables) words [] = ⊥
+AreNamed (table ∷ tables) words (path ∷ paths) = Contains words (table.name.items ++ 61 ∷ path) × AreNamed tables words paths

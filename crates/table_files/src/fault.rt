@@ -1,0 +1,236 @@
+//! What goes wrong in `encode`, `decode` and `kinds`, its status, and its one line.
+
+ghost use Rattle.std.specs.Prelude.{◌≡◌, ◌<◌};
+ghost use Rattle.table_files.specs.Written.{IsWriteFault};
+
+use record_core::Span;
+use refusals::explanation_of;
+use schema::SchemaRefusal;
+use std::alloc::{AllocError, AllocFailed, Global};
+use std::io;
+use std::io::Write;
+use tables::{Fault as TableFault, TableRefusal};
+
+/// Why a command came to no end. A path is as the line gives it.
+#[derive(Drop)]
+pub enum Fault<'a> {
+    NoMemory,
+    /// The file can't be read.
+    Read(&'a str),
+    /// Standard output can't be written.
+    Write,
+    /// The dictionary's file can't be written, or another one is being written.
+    Dictionary(&'a str, bool),
+    /// The line's words don't fit the schema.
+    Words(WordFault<'a>),
+    Schema(schema::Fault, u64),
+    /// The number of a query's refusal, and its place.
+    Query(u8, Span),
+    /// The file's path, what is wrong, the line, and the name of the column if it is of a cell.
+    Table(&'a str, TableFault, u64, Option<Vec<u8>>),
+}
+
+/// What is wrong with the words of a line.
+#[derive(Clone, Copy)]
+pub enum WordFault<'a> {
+    /// The word isn't an input's name, `=` and a file.
+    NoTable(&'a str),
+    /// The input has no file, or two.
+    Files,
+    /// There are texts, and no dictionary is named.
+    NoDictionary,
+    /// The schema has no such output, or several and none is named.
+    NoOutput,
+    /// Two of the texts are standard input.
+    InputTwice,
+}
+
+impl<'a> From<AllocError> for Fault<'a> {
+    fn from(_e: AllocError) -> Fault<'a> {
+        Fault::NoMemory
+    }
+}
+
+impl<'a, T: Drop> From<AllocFailed<T>> for Fault<'a> {
+    fn from(_e: AllocFailed<T>) -> Fault<'a> {
+        Fault::NoMemory
+    }
+}
+
+/// The fault of a schema that is refused.
+pub fn schema_fault<'a>(refusal: SchemaRefusal) -> Fault<'a> {
+    match refusal {
+        SchemaRefusal::NoMemory => Fault::NoMemory,
+        SchemaRefusal::At { fault, line } => Fault::Schema(fault, line),
+    }
+}
+
+/// The column, from 0, that a fault is about.
+fn column_of(fault: TableFault) -> Option<usize> {
+    match fault {
+        TableFault::Cell(place) | TableFault::Order(place) => Some(place),
+        _ => None,
+    }
+}
+
+/// The fault of a file that is refused, whose columns have these names.
+pub fn table_fault<'a>(
+    alloc: Global,
+    path: &'a str,
+    headers: &[Vec<u8>],
+    refusal: TableRefusal,
+) -> Fault<'a> {
+    let TableRefusal::At { fault, line } = refusal else {
+        return Fault::NoMemory;
+    };
+    let Some(place) = column_of(fault) else {
+        return Fault::Table(path, fault, line, None);
+    };
+    let name = match headers.get(place) {
+        Some(header) => header.as_slice(),
+        None => b"",
+    };
+    match Vec::from_slice(alloc, name) {
+        Ok(name) => Fault::Table(path, fault, line, Some(name)),
+        Err(_) => Fault::NoMemory,
+    }
+}
+
+/// The number and the phrase of a file's fault.
+fn told(fault: TableFault) -> (u8, &'static str) {
+    match fault {
+        TableFault::Text(csv_strict::Fault::EmptyLine) => (61, "an empty line"),
+        TableFault::Text(csv_strict::Fault::QuoteInside) => {
+            (61, "a quote in a cell without quotes")
+        }
+        TableFault::Text(csv_strict::Fault::AfterQuote) => {
+            (61, "more after a cell's closing quote")
+        }
+        TableFault::Text(csv_strict::Fault::BareReturn) => {
+            (61, "a carriage return that ends no line")
+        }
+        TableFault::Text(csv_strict::Fault::Unclosed) => (61, "a quote that is never closed"),
+        TableFault::Header => (62, "another header row than the schema's"),
+        TableFault::Length => (63, "another number of cells than of columns"),
+        TableFault::Cell(_) => (64, "no cell of its column"),
+        TableFault::Order(_) => (65, "an epoch that comes too late"),
+        TableFault::Dictionary => (66, "no new text"),
+        TableFault::Answer => (67, "no line of this output's answer"),
+    }
+}
+
+/// Writes what is wrong with words.
+fn write_words<W: Write>(fault: WordFault<'_>, out: &mut W) -> io::Result<()> {
+    match fault {
+        WordFault::NoTable(word) => {
+            writeln!(
+                out,
+                "error: '{word}' is no input of the schema, '=' and its file"
+            )
+        }
+        WordFault::Files => writeln!(out, "error: each input of the schema has one NAME=FILE"),
+        WordFault::NoDictionary => {
+            writeln!(
+                out,
+                "error: the schema has texts: their numbers are kept in --dictionary FILE"
+            )
+        }
+        WordFault::NoOutput => {
+            writeln!(
+                out,
+                "error: say which output of the schema it is by --output NAME"
+            )
+        }
+        WordFault::InputTwice => {
+            writeln!(
+                out,
+                "error: only one of the files can be '-', which is standard input"
+            )
+        }
+    }
+}
+
+/// A column's name as it is shown: what is no letter, digit or sign of ASCII as `?`.
+fn write_name<W: Write>(name: &[u8], out: &mut W) -> io::Result<()> {
+    for byte in name {
+        let shown = if matches!(*byte, b' '..=b'~') {
+            *byte
+        } else {
+            b'?'
+        };
+        out.write_all(&[shown])?;
+    }
+    Ok(())
+}
+
+/// Writes the line of a query's refusal, with what its number means.
+fn write_query<W: Write>(code: u8, span: Span, out: &mut W) -> io::Result<()> {
+    let Span { start, end } = span;
+    match explanation_of(code) {
+        Some(row) => writeln!(
+            out,
+            "query refused {code} at {start}..{end}: {}",
+            row.summary
+        ),
+        None => writeln!(out, "query refused {code} at {start}..{end}"),
+    }
+}
+
+/// Writes the line of a fault of a file.
+fn write_table<W: Write>(
+    path: &str,
+    fault: TableFault,
+    line: u64,
+    column: Option<&[u8]>,
+    out: &mut W,
+) -> io::Result<()> {
+    let (code, phrase) = told(fault);
+    write!(out, "{path} refused {code} at line {line}")?;
+    if let Some(name) = column {
+        write!(out, ", column ")?;
+        write_name(name, out)?;
+    }
+    writeln!(out, ": {phrase}")
+}
+
+impl Fault<'_> {
+    /// The exit status.
+    pub fn status(&self) -> u8
+        ensures write { IsWriteFault self.now → result ≡ 6 }
+        ensures some { 0 < result }
+    {
+        match self {
+            Fault::Words(_) => 2,
+            Fault::Schema(_, _) | Fault::Query(_, _) => 3,
+            Fault::Table(_, _, _, _) => 4,
+            Fault::NoMemory => 5,
+            Fault::Read(_) | Fault::Write | Fault::Dictionary(_, _) => 6,
+        }
+    }
+
+    /// Writes the one line of the fault.
+    pub fn write_line<W: Write>(&self, out: &mut W) -> io::Result<()> {
+        match self {
+            Fault::NoMemory => writeln!(out, "out of memory"),
+            Fault::Read(path) => writeln!(out, "cannot read {path}"),
+            Fault::Write => writeln!(out, "cannot write"),
+            Fault::Dictionary(path, true) => {
+                writeln!(
+                    out,
+                    "cannot write {path}: another command writes it, or {path}.new is left of one that was ended"
+                )
+            }
+            Fault::Dictionary(path, false) => writeln!(out, "cannot write {path}"),
+            Fault::Words(fault) => write_words(*fault, out),
+            Fault::Schema(fault, line) => {
+                let code = fault.code();
+                writeln!(out, "schema refused {code} at line {line}: {fault}")
+            }
+            Fault::Query(code, span) => write_query(*code, *span, out),
+            Fault::Table(path, fault, line, column) => match column {
+                Some(name) => write_table(path, *fault, *line, Some(name.as_slice()), out),
+                None => write_table(path, *fault, *line, None, out),
+            },
+        }
+    }
+}
