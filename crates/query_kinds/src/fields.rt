@@ -47,7 +47,7 @@ fn push_named_column(
 
 /// Appends the names of a source's input and column.
 #[tactic(auto, using(crate::proofs::Inputs::input_at, crate::proofs::Inputs::no_input_at))]
-fn push_source(
+pub(crate) fn push_source(
     text: &mut Vec<u8>,
     tables: &[Table],
     inputs: &[Input],

@@ -59,6 +59,10 @@ abbrev pub numbers_from : {X : Type 0} → ℕ → List X → List ℤ
 numbers_from n [] = []
 numbers_from n (x ∷ xs) = pos n ∷ numbers_from (n + 1) xs
 
--- the kinds of the inputs and of the outputs, where the query goes with the schema
+-- the kinds of the inputs and of the outputs, by the schema's inputs and constants
+abbrev pub found : Schema → Program → Option (List (List Kind) × List (List Kind))
+found s p = option_and_then (λ ins. option_and_then (λ outs. Some (ins, outs)) (program_kinds (numbers_from 0 s.constants.items) p ins)) (input_kinds s.inputs.items p.inputs)
+
+-- the same where the query goes with the schema
 abbrev pub checked : Schema → Program → Option (List (List Kind) × List (List Kind))
-checked s p = option_and_then (λ ins. option_and_then (λ outs. cond (outputs_fit s.outputs.items p.outputs outs) (Some (ins, outs)) None) (program_kinds (numbers_from 0 s.constants.items) p ins)) (input_kinds s.inputs.items p.inputs)
+checked s p = option_and_then (λ (kinds : List (List Kind) × List (List Kind)). cond (outputs_fit s.outputs.items p.outputs kinds.1) (Some kinds) None) (found s p)

@@ -72,6 +72,21 @@ fn outputs_fit<A: Allocator>(
     }
 }
 
+/// What the fields of a query stand for by the inputs and the constants of a schema, or the first place where it doesn't go with these or computes what
+/// makes no sense.
+pub fn found_kinds<A: Allocator>(
+    alloc: Global,
+    program: &Program<A>,
+    schema: &Schema,
+) -> Result<QueryKinds, Refusal>
+    ensures { Finds (λ q. (map (λ w. w.items) q.inputs.items, map (λ w. w.items) q.outputs.items)) result (spec.found schema.now (plain_program (program_tree program.now))) }
+{
+    let inputs = input_kinds(alloc, &schema.inputs, &program.inputs)?;
+    let named = numbers(alloc, &schema.constants)?;
+    let outputs = check_kinds(alloc, &named, program, &inputs)?;
+    Ok(QueryKinds { inputs, outputs })
+}
+
 /// What the fields of a query stand for by a schema, or the first place where it doesn't go with the schema or computes what makes no sense: an input,
 /// then what `check_kinds` refuses, then an output.
 pub fn check_schema<A: Allocator>(
@@ -81,9 +96,7 @@ pub fn check_schema<A: Allocator>(
 ) -> Result<QueryKinds, Refusal>
     ensures { Finds (λ q. (map (λ w. w.items) q.inputs.items, map (λ w. w.items) q.outputs.items)) result (spec.checked schema.now (plain_program (program_tree program.now))) }
 {
-    let inputs = input_kinds(alloc, &schema.inputs, &program.inputs)?;
-    let named = numbers(alloc, &schema.constants)?;
-    let outputs = check_kinds(alloc, &named, program, &inputs)?;
-    outputs_fit(alloc, &schema.outputs, &program.outputs, &outputs)?;
-    Ok(QueryKinds { inputs, outputs })
+    let kinds = found_kinds(alloc, program, schema)?;
+    outputs_fit(alloc, &schema.outputs, &program.outputs, &kinds.outputs)?;
+    Ok(kinds)
 }

@@ -10,5 +10,5 @@
 mod checking;
 mod tables;
 
-pub use checking::{QueryKinds, check_schema};
+pub use checking::{QueryKinds, check_schema, found_kinds};
 pub use tables::OTHER_TABLE;

@@ -5,6 +5,7 @@ ghost use Rattle.collector.specs.Watching.{inner_of};
 ghost use Rattle.table_runs.specs.Runs.{IsDone};
 ghost use Rattle.table_runs.specs.declared.line.TableRun.{TableRun};
 
+use crate::columns::write_columns;
 use crate::fault::RunFault;
 use crate::line::{TableRun, read_words};
 use crate::running::run_tables;
@@ -18,7 +19,16 @@ use std::sync::Wait;
 use std::thread::Threads;
 use table_commands::{Drafts, refuse, report};
 
-/// Whether a line, whose first word is the program's own, is one of `run` with the option `--schema`.
+/// Whether a word is an option that `run` has with `--schema` alone, or that one.
+fn is_option(word: &str) -> bool {
+    let name = match word.split_once('=') {
+        Some((name, _)) => name,
+        None => word,
+    };
+    matches!(name, "--schema" | "--dictionary" | "--output")
+}
+
+/// Whether a line, whose first word is the program's own, is one of `run` with the option `--schema`, or with one that needs it.
 pub fn is_table_run(words: &[&str]) -> bool
     ensures { result ≡ true → get_or (map (λ s. s.now) words.now) 1 [] ≡ codes "run" }
 {
@@ -26,7 +36,7 @@ pub fn is_table_run(words: &[&str]) -> bool
         [_, first, others @ ..] if *first == "run" => others
             .iter()
             .take_while(|word| **word != "--")
-            .any(|word| *word == "--schema" || word.starts_with("--schema=")),
+            .any(|word| is_option(*word)),
         _ => false,
     }
 }
@@ -53,6 +63,7 @@ fn write_fault<W: Write>(
     write_told(fault, names, texts, out)?;
     if asked.explain {
         explain_fault(alloc, fault, names, texts, out)?;
+        write_columns(fault, texts, out)?;
         write_path_hint(fault, names.query, out)?;
     }
     Ok(())

@@ -8,6 +8,7 @@
 #![tactic(auto)]
 
 mod answering;
+mod columns;
 mod fault;
 mod line;
 mod running;

@@ -7,6 +7,7 @@ ghost use Rattle.console.specs.Runs.{IsRun};
 ghost use Rattle.table_commands.specs.Read.{IsKnownAs, IsOutput};
 ghost use Rattle.table_runs.specs.Runs.{Fails, GoesWith, IsAnswerFile, IsBegun, IsDone, IsQueryText, WritesAnswer};
 
+use crate::columns::columns_at;
 use crate::fault::RunFault;
 use crate::line::TableRun;
 use bumpalo::Bump;
@@ -263,7 +264,7 @@ pub fn asked_output<'s, 'a>(
 }
 
 /// Reads the schema, the words and the query of a line, and checks that the query goes with the schema. Of the query what was read is left in `texts`
-/// where it is refused.
+/// where it is refused, and if that is to be explained, what is said of the columns there, as its input.
 ///
 /// Faults are reported in this order: the schema, the words, the query's text, what it computes by the schema.
 pub fn begin_run<'a, S: Sources<'a>>(
@@ -283,6 +284,9 @@ pub fn begin_run<'a, S: Sources<'a>>(
     asked_output(&schema, asked.output)?;
     let query = query_text(alloc, sources, asked.query, texts)?;
     if let Err(fault) = check_query(alloc, query.as_slice(), &schema) {
+        if asked.explain {
+            texts.input = columns_at(alloc, query.as_slice(), &schema, &fault);
+        }
         texts.query = query;
         return Err(RunFault::Run(fault));
     }
