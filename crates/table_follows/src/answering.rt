@@ -1,6 +1,10 @@
 //! A line of words, answered.
 
-ghost use Rattle.std.specs.Prelude.{◌≡◌, [], codes, get_or, map, true};
+ghost use Rattle.std.specs.Prelude.{◌≡◌, ◌⊎◌, [], codes, get_or, map, true};
+ghost use Rattle.collector.specs.Watching.{inner_of};
+ghost use Rattle.table_follows.specs.Followed.{HasFailed, HasFollowed};
+ghost use Rattle.table_runs.specs.declared.fault.RunFault as fault;
+ghost use Rattle.table_runs.specs.declared.line.TableRun.{TableRun};
 
 use crate::following::follow_tables;
 use collector::{Sources, Watched};
@@ -25,8 +29,8 @@ pub fn is_table_follow(words: &[&str]) -> bool
     }
 }
 
-/// Answers a line of `follow --schema`, whose first word is the program's own, and gives the status: 0 done, 2 command line, 3 schema or query, 4 a file's
-/// text, 5 memory, a count or a thread, 6 file. The rows that were written before a fault stay.
+/// Answers a line of `follow --schema`, whose first word is the program's own, and gives the status: 0 done, 2 command line, 3 schema or query, 4 a
+/// file's text, 5 memory, a count or a thread, 6 file. The rows that were written before a fault stay.
 pub fn answer_table_follow<
     'a,
     R: Threads + Wait + Sync,
@@ -42,7 +46,13 @@ pub fn answer_table_follow<
     words: &'a [&'a str],
     out: &mut Watched<W>,
     err: &mut E,
-) -> u8 {
+) -> u8
+    ensures written { result ≡ 0 → (asked : TableRun) × HasFollowed (S.content sources.now) asked (W.contents (inner_of out.old))
+        (W.contents (inner_of out.new)) }
+    ensures fault { (result ≡ 0) ⊎ ((W.contents (inner_of out.new) ≡ W.contents (inner_of out.old)) ⊎
+        ((asked : TableRun) × (fault : fault.RunFault) × HasFailed (S.content sources.now) asked fault (W.contents (inner_of out.old))
+        (W.contents (inner_of out.new)))) }
+{
     let asked = match read_words(alloc, words) {
         Ok(Some(asked)) => asked,
         Ok(None) => return 2,

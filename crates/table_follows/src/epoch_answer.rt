@@ -1,5 +1,12 @@
 //! The rows of the answer to one epoch.
 
+ghost use Rattle.std.specs.Prelude.{◌≡◌, ◌∷◌, false, IfOk, List, ℕ, OnOk, map, slice_set};
+ghost use Rattle.csv_cells.specs.Texts.{Grows, texts_of};
+ghost use Rattle.csv_epochs.specs.Epochs.{cell_of};
+ghost use Rattle.tables.specs.Tables.{IsLate};
+ghost use Rattle.table_follows.specs.Followed.{IsAnswered, IsValue, csv_file};
+ghost use Rattle.table_follows.specs.Going.{IsFileUnder, Keeps, followed_by, reached_by};
+
 use crate::numbering::numbered;
 use crate::stream::Stream;
 use console::{Fault, Texts};
@@ -75,7 +82,10 @@ fn value_of(
     column: Column,
     dictionary: &mut Dictionary,
     epoch: &Epoch,
-) -> Result<Option<i64>, AllocError> {
+) -> Result<Option<i64>, AllocError>
+    ensures value { IfOk result (IsValue column (texts_of dictionary.new) (cell_of epoch.now)) }
+    ensures grows { OnOk result (Grows (texts_of dictionary.old) (texts_of dictionary.new)) }
+{
     match &epoch.cell {
         Some(cell) => read_cell(alloc, column, dictionary, cell.as_slice()),
         None => Ok(None),
@@ -83,7 +93,9 @@ fn value_of(
 }
 
 /// Whether an epoch comes before the last one.
-fn is_late(last: Option<i64>, value: Option<i64>) -> bool {
+fn is_late(last: Option<i64>, value: Option<i64>) -> bool
+    ensures { result ≡ false → ¬ IsLate last value }
+{
     match (last, value) {
         (Some(before), Some(now)) => now < before,
         _ => false,
@@ -114,7 +126,9 @@ fn file_of<'a, R: Threads + Wait + Sync>(
     dictionary: &Dictionary,
     input: &[u8],
     texts: &mut Texts,
-) -> Result<Vec<u8>, RunFault<'a>> {
+) -> Result<Vec<u8>, RunFault<'a>>
+    ensures { IfOk result (λ file. IsFileUnder job.now.table.now job.now.query.now number (texts_of dictionary.now) input.now file.items) }
+{
     let answer = answer_text(rt, alloc, job.workers, job.query, input, texts)?;
     let text = numbered(alloc, number, answer.as_slice())?;
     match decode(alloc, job.table, true, dictionary, text.as_slice()) {
@@ -127,7 +141,9 @@ fn file_of<'a, R: Threads + Wait + Sync>(
 }
 
 /// Puts a text at its place among others.
-pub fn put_text(files: &mut Vec<Vec<u8>>, place: usize, text: Vec<u8>) {
+pub fn put_text(files: &mut Vec<Vec<u8>>, place: usize, text: Vec<u8>)
+    ensures { map (λ v. v.items) files.new.items ≡ slice_set (map (λ v. v.items) files.old.items) place text.items }
+{
     if place < files.len() {
         files[place] = text;
     }
@@ -140,7 +156,12 @@ pub fn answer_epoch<'a, R: Threads + Wait + Sync>(
     following: &mut Following<'_, 'a>,
     epoch: Epoch,
     texts: &mut Texts,
-) -> Result<Vec<u8>, RunFault<'a>> {
+) -> Result<Vec<u8>, RunFault<'a>>
+    ensures answered { IfOk result (λ file. (rows : List (List (List ℕ)))
+        × IsAnswered (followed_by following.old) (reached_by following.old) (reached_by following.new) epoch rows
+        × (file.items ≡ csv_file following.old.job.table.now rows)) }
+    ensures keeps { OnOk result (Keeps following.old following.new) }
+{
     let job = following.job;
     let number = following.count;
     let Some(count) = number.checked_add(1) else {

@@ -1,5 +1,16 @@
 //! Follows a CSV file, and writes the rows of each epoch's answer.
 
+ghost use Rattle.std.specs.Prelude.{◌≡◌, ◌⊎◌, ◌∷◌, ◌++◌, [], IfErr, IfOk, List, ℕ, OnOk, Option, get_or, map};
+ghost use Rattle.collector.specs.Watching.{inner_of};
+ghost use Rattle.csv_epochs.specs.declared.epoch.Epoch as epoch;
+ghost use Rattle.table_commands.specs.Read.{IsKnownAs};
+ghost use Rattle.tables.specs.Answers.{header_of};
+ghost use Rattle.tables.specs.Files.{csv_text};
+ghost use Rattle.table_follows.specs.Followed.{FailsFile, FailsSo, FailsText, FollowsAll, FollowsFile};
+ghost use Rattle.table_follows.specs.Followed.{FollowsPart, FollowsText, HasFollowed, IsStart, IsStream, Reached};
+ghost use Rattle.table_follows.specs.Going.{BreaksIn, BreaksOff, HasHeader, HasTaken, HasWritten};
+ghost use Rattle.table_follows.specs.Going.{IsGoing, IsReady, Keeps, WritesEpoch, followed_by, reached_by};
+
 use crate::epoch_answer::{Following, Lines, answer_epoch, files_fault, put_text};
 use crate::stream::{Stream, other_texts, stream_of};
 use collector::{Sources, Watched, open_named, put};
@@ -46,7 +57,9 @@ fn split_fault<'a>(
 }
 
 /// The rows of a CSV file, without the header row.
-fn rows_under<'f>(header: &[u8], file: &'f [u8]) -> &'f [u8] {
+fn rows_under<'f>(header: &[u8], file: &'f [u8]) -> &'f [u8]
+    ensures { (rows : List ℕ) → file.now ≡ header.now ++ rows → result.now ≡ rows }
+{
     match file.strip_prefix(header) {
         Some(rows) => rows,
         None => file,
@@ -61,7 +74,13 @@ fn write_epoch<'a, R: Threads + Wait + Sync, W: Write>(
     epoch: Epoch,
     texts: &mut Texts,
     out: &mut Watched<W>,
-) -> Result<(), RunFault<'a>> {
+) -> Result<(), RunFault<'a>>
+    ensures written { HasHeader following.old → OnOk result (WritesEpoch (followed_by following.old) (reached_by following.old)
+        (reached_by following.new) epoch (W.contents (inner_of out.old)) (W.contents (inner_of out.new))) }
+    ensures fault { HasHeader following.old → IfErr result (λ fault. (W.contents (inner_of out.new) ≡ W.contents (inner_of out.old)) ⊎ BreaksOff
+        (followed_by following.old) (reached_by following.old) epoch (W.contents (inner_of out.old)) (W.contents (inner_of out.new)) fault) }
+    ensures keeps { OnOk result (Keeps following.old following.new) }
+{
     let is_first = following.count == 0;
     let file = answer_epoch(rt, alloc, following, epoch, texts)?;
     let rows = if is_first {
@@ -84,10 +103,18 @@ fn follow_piece<'a, R: Threads + Wait + Sync, W: Write>(
     piece: &[u8],
     texts: &mut Texts,
     out: &mut Watched<W>,
-) -> Result<(), RunFault<'a>> {
+) -> Result<(), RunFault<'a>>
+    ensures going { (start : Reached) (text : List ℕ) (before : Option (List ℕ)) → HasHeader following.old → IsStart start
+        → IsGoing (followed_by following.old) start (reached_by following.old) splitter.old text piece.now before (W.contents (inner_of out.old))
+        → OnOk result (IsGoing (followed_by following.old) start (reached_by following.new) splitter.new text [] before
+        (W.contents (inner_of out.new))) }
+    ensures fault { (start : Reached) (text : List ℕ) (before : Option (List ℕ)) → HasHeader following.old → IsStart start
+        → IsGoing (followed_by following.old) start (reached_by following.old) splitter.old text piece.now before (W.contents (inner_of out.old))
+        → IfErr result (λ fault. FollowsPart (followed_by following.old) text fault before (W.contents (inner_of out.new))) }
+    ensures keeps { OnOk result (Keeps following.old following.new) }
+{
     let mut rest = piece;
-    // Each epoch takes at least a byte of the piece.
-    for _epoch in 0..piece.len().saturating_add(1) {
+    'epochs: loop {
         let (found, behind) = match splitter.take(rest) {
             Ok(taken) => taken,
             Err(fault) => return Err(split_fault(alloc, following, fault)),
@@ -98,7 +125,6 @@ fn follow_piece<'a, R: Threads + Wait + Sync, W: Write>(
         write_epoch(rt, alloc, following, epoch, texts, out)?;
         rest = behind;
     }
-    Ok(())
 }
 
 /// Writes the rows of the last epochs.
@@ -109,7 +135,16 @@ fn follow_last<'a, R: Threads + Wait + Sync, W: Write>(
     epochs: Vec<Epoch>,
     texts: &mut Texts,
     out: &mut Watched<W>,
-) -> Result<(), RunFault<'a>> {
+) -> Result<(), RunFault<'a>>
+    ensures written { (start : Reached) (done : List epoch.Epoch) (before : Option (List ℕ)) → HasHeader following.old → IsStart start
+        → HasWritten (followed_by following.old) start (reached_by following.old) done before (W.contents (inner_of out.old))
+        → OnOk result (HasWritten (followed_by following.old) start (reached_by following.new) (done ++ epochs.items) before
+        (W.contents (inner_of out.new))) }
+    ensures fault { (start : Reached) (done : List epoch.Epoch) (before : Option (List ℕ)) → HasHeader following.old → IsStart start
+        → HasWritten (followed_by following.old) start (reached_by following.old) done before (W.contents (inner_of out.old)) → IfErr result
+        (BreaksIn (followed_by following.old) start done epochs.items before (W.contents (inner_of out.new))) }
+    ensures keeps { OnOk result (Keeps following.old following.new) }
+{
     for epoch in epochs {
         write_epoch(rt, alloc, following, epoch, texts, out)?;
     }
@@ -125,7 +160,15 @@ fn follow_text<'a, R: Threads + Wait + Sync, T: Read, W: Write>(
     text: &mut Watched<T>,
     texts: &mut Texts,
     out: &mut Watched<W>,
-) -> Result<Vec<u8>, RunFault<'a>> {
+) -> Result<Vec<u8>, RunFault<'a>>
+    ensures taken { HasHeader following.old → IsStart (reached_by following.old) → IfOk result
+        (λ header. (bytes : List ℕ) × IsKnownAs (T.remaining (inner_of text.old)) bytes
+        × HasTaken (followed_by following.old) (reached_by following.old) (reached_by following.new) bytes header.items
+        (W.contents (inner_of out.old)) (W.contents (inner_of out.new))) }
+    ensures fault { HasHeader following.old → IsStart (reached_by following.old) → IfErr result
+        (FailsText (T.remaining (inner_of text.old)) (followed_by following.old) (W.contents (inner_of out.old)) (W.contents (inner_of out.new))) }
+    ensures keeps { OnOk result (Keeps following.old following.new) }
+{
     let mut splitter = Splitter::new(alloc, following.stream.column);
     let mut piece = [0; 16_384];
     let mut room = MAX_BYTES;
@@ -164,7 +207,12 @@ fn check_files<'a>(
     alloc: Global,
     following: &mut Following<'_, 'a>,
     header: Vec<u8>,
-) -> Result<(), RunFault<'a>> {
+) -> Result<(), RunFault<'a>>
+    ensures keeps { Keeps following.old following.new }
+    ensures paths { following.new.job ≡ following.old.job }
+    ensures count { following.new.count ≡ following.old.count }
+    ensures last { following.new.last ≡ following.old.last }
+{
     let place = following.stream.place;
     put_text(&mut following.files, place, header);
     let files = following.files.as_slice();
@@ -191,7 +239,14 @@ fn follow_end<'a, W: Write>(
     following: &mut Following<'_, 'a>,
     header: Vec<u8>,
     out: &mut Watched<W>,
-) -> Result<(), RunFault<'a>> {
+) -> Result<(), RunFault<'a>>
+    ensures written { (start : Reached) (text : List ℕ) (before : Option (List ℕ)) → HasHeader following.old → IsStart start
+        → HasTaken (followed_by following.old) start (reached_by following.old) text header.items before (W.contents (inner_of out.old))
+        → OnOk result (FollowsAll (followed_by following.old) text before (W.contents (inner_of out.new))) }
+    ensures fault { (start : Reached) (text : List ℕ) (before : Option (List ℕ)) → HasHeader following.old → IsStart start
+        → HasTaken (followed_by following.old) start (reached_by following.old) text header.items before (W.contents (inner_of out.old))
+        → IfErr result (λ fault. FollowsPart (followed_by following.old) text fault before (W.contents (inner_of out.new))) }
+{
     if following.count != 0 {
         return Ok(());
     }
@@ -203,11 +258,9 @@ fn follow_end<'a, W: Write>(
 }
 
 /// The header row of a table's file.
-fn header_row<'a>(
-    alloc: Global,
-    table: &Table,
-    with_epochs: bool,
-) -> Result<Vec<u8>, RunFault<'a>> {
+fn header_row<'a>(alloc: Global, table: &Table, with_epochs: bool) -> Result<Vec<u8>, RunFault<'a>>
+    ensures { IfOk result (λ row. row.items ≡ csv_text (header_of table.now with_epochs ∷ [])) }
+{
     let none = Dictionary::new(alloc);
     match decode(alloc, table, with_epochs, &none, b"") {
         Ok(header) => Ok(header),
@@ -224,7 +277,9 @@ fn own_header<'a>(alloc: Global, tables: &[Table], place: usize) -> Result<Vec<u
 }
 
 /// The path of a file.
-fn path_at<'a>(paths: &[&'a str], place: usize) -> &'a str {
+fn path_at<'a>(paths: &[&'a str], place: usize) -> &'a str
+    ensures { result.now ≡ get_or (map (λ s. s.now) paths.now) place [] }
+{
     if place < paths.len() {
         paths[place]
     } else {
@@ -240,7 +295,14 @@ fn follow_file<'a, R: Threads + Wait + Sync, S: Sources<'a>, W: Write>(
     following: &mut Following<'_, 'a>,
     texts: &mut Texts,
     out: &mut Watched<W>,
-) -> Result<(), RunFault<'a>> {
+) -> Result<(), RunFault<'a>>
+    ensures written { HasHeader following.old → IsStart (reached_by following.old)
+        → OnOk result (FollowsText (S.content sources.now (get_or (map (λ s. s.now) following.old.job.paths.now) following.old.stream.place []))
+        (followed_by following.old) (W.contents (inner_of out.old)) (W.contents (inner_of out.new))) }
+    ensures fault { HasHeader following.old → IsStart (reached_by following.old)
+        → IfErr result (FailsText (S.content sources.now (get_or (map (λ s. s.now) following.old.job.paths.now) following.old.stream.place []))
+        (followed_by following.old) (W.contents (inner_of out.old)) (W.contents (inner_of out.new))) }
+{
     let place = following.stream.place;
     let header = own_header(alloc, &following.job.schema.inputs, place)?;
     check_files(alloc, following, header)?;
@@ -263,7 +325,11 @@ fn begin_following<'p, 'a, S: Sources<'a>>(
     sources: &S,
     streamed: Streamed<'p, 'a>,
     dictionary: Dictionary,
-) -> Result<Following<'p, 'a>, RunFault<'a>> {
+) -> Result<Following<'p, 'a>, RunFault<'a>>
+    ensures { IsStream streamed.entry.job.schema.now.inputs.items streamed.entry.stream.place streamed.entry.stream.column
+        streamed.entry.stream.cells → IfOk result (IsReady (S.content sources.now) streamed.entry.job.schema.now streamed.entry.job.table.now
+        (map (λ s. s.now) streamed.entry.job.paths.now) streamed.entry.job.query.now) }
+{
     let Streamed { job, stream } = streamed;
     Ok(Following {
         job,
@@ -284,7 +350,18 @@ fn follow_without<'a, R: Threads + Wait + Sync, S: Sources<'a>, W: Write>(
     streamed: Streamed<'_, 'a>,
     texts: &mut Texts,
     out: &mut Watched<W>,
-) -> Result<(), RunFault<'a>> {
+) -> Result<(), RunFault<'a>>
+    ensures written { IsStream streamed.entry.job.schema.now.inputs.items streamed.entry.stream.place streamed.entry.stream.column
+        streamed.entry.stream.cells
+        → OnOk result (FollowsFile (S.content sources.now) streamed.entry.job.schema.now streamed.entry.job.table.now
+        (map (λ s. s.now) streamed.entry.job.paths.now) streamed.entry.job.query.now (W.contents (inner_of out.old))
+        (W.contents (inner_of out.new))) }
+    ensures fault { IsStream streamed.entry.job.schema.now.inputs.items streamed.entry.stream.place streamed.entry.stream.column
+        streamed.entry.stream.cells
+        → IfErr result (FailsFile (S.content sources.now) streamed.entry.job.schema.now streamed.entry.job.table.now
+        (map (λ s. s.now) streamed.entry.job.paths.now) streamed.entry.job.query.now (W.contents (inner_of out.old))
+        (W.contents (inner_of out.new))) }
+{
     let none = Dictionary::new(alloc);
     let mut following = begin_following(alloc, sources, streamed, none)?;
     follow_file(rt, alloc, sources, &mut following, texts, out)
@@ -299,7 +376,18 @@ fn follow_with<'a, R: Threads + Wait + Sync, S: Sources<'a>, W: Write>(
     name: &'a str,
     texts: &mut Texts,
     out: &mut Watched<W>,
-) -> Result<Option<Vec<u8>>, RunFault<'a>> {
+) -> Result<Option<Vec<u8>>, RunFault<'a>>
+    ensures written { IsStream streamed.entry.job.schema.now.inputs.items streamed.entry.stream.place streamed.entry.stream.column
+        streamed.entry.stream.cells
+        → OnOk result (FollowsFile (S.content sources.now) streamed.entry.job.schema.now streamed.entry.job.table.now
+        (map (λ s. s.now) streamed.entry.job.paths.now) streamed.entry.job.query.now (W.contents (inner_of out.old))
+        (W.contents (inner_of out.new))) }
+    ensures fault { IsStream streamed.entry.job.schema.now.inputs.items streamed.entry.stream.place streamed.entry.stream.column
+        streamed.entry.stream.cells
+        → IfErr result (FailsFile (S.content sources.now) streamed.entry.job.schema.now streamed.entry.job.table.now
+        (map (λ s. s.now) streamed.entry.job.paths.now) streamed.entry.job.query.now (W.contents (inner_of out.old))
+        (W.contents (inner_of out.new))) }
+{
     let dictionary = dictionary_of(alloc, sources, name, true)?;
     let count = dictionary.len();
     let mut following = begin_following(alloc, sources, streamed, dictionary)?;
@@ -319,7 +407,18 @@ fn follow_streamed<'a, R: Threads + Wait + Sync, S: Sources<'a>, D: Drafts, W: W
     streamed: Streamed<'_, 'a>,
     texts: &mut Texts,
     out: &mut Watched<W>,
-) -> Result<(), RunFault<'a>> {
+) -> Result<(), RunFault<'a>>
+    ensures written { IsStream streamed.entry.job.schema.now.inputs.items streamed.entry.stream.place streamed.entry.stream.column
+        streamed.entry.stream.cells
+        → OnOk result (FollowsFile (S.content sources.now) streamed.entry.job.schema.now streamed.entry.job.table.now
+        (map (λ s. s.now) streamed.entry.job.paths.now) streamed.entry.job.query.now (W.contents (inner_of out.old))
+        (W.contents (inner_of out.new))) }
+    ensures fault { IsStream streamed.entry.job.schema.now.inputs.items streamed.entry.stream.place streamed.entry.stream.column
+        streamed.entry.stream.cells
+        → IfErr result (FailsFile (S.content sources.now) streamed.entry.job.schema.now streamed.entry.job.table.now
+        (map (λ s. s.now) streamed.entry.job.paths.now) streamed.entry.job.query.now (W.contents (inner_of out.old))
+        (W.contents (inner_of out.new))) }
+{
     let Some(name) = streamed.job.dictionary else {
         return follow_without(rt, alloc, sources, streamed, texts, out);
     };
@@ -333,11 +432,11 @@ fn follow_streamed<'a, R: Threads + Wait + Sync, S: Sources<'a>, D: Drafts, W: W
     }
 }
 
-/// Writes the CSV file of a query's answer while one of the files arrives: that of the input which has an epoch for each value of a column. The rows of an
-/// epoch are written once it is complete. Where no input has epochs of its own it does what `run_tables` does.
+/// Writes the CSV file of a query's answer while one of the files arrives: that of the input which has an epoch for each value of a column. The
+/// rows of an epoch are written once it is complete. Where no input has epochs of its own it does what `run_tables` does.
 ///
-/// Faults are reported in this order: those of `begin_run`, the dictionary, the other files, and then those of the file that arrives and of the runs, epoch
-/// by epoch. The rows that were written before a fault stay.
+/// Faults are reported in this order: those of `begin_run`, the dictionary, the other files, and then those of the file that arrives and of the
+/// runs, epoch by epoch. The rows that were written before a fault stay.
 pub fn follow_tables<'a, R: Threads + Wait + Sync, S: Sources<'a>, D: Drafts, W: Write>(
     rt: &R,
     alloc: Global,
@@ -346,7 +445,10 @@ pub fn follow_tables<'a, R: Threads + Wait + Sync, S: Sources<'a>, D: Drafts, W:
     asked: &TableRun<'a>,
     texts: &mut Texts,
     out: &mut Watched<W>,
-) -> Result<(), RunFault<'a>> {
+) -> Result<(), RunFault<'a>>
+    ensures written { OnOk result (HasFollowed (S.content sources.now) asked.now (W.contents (inner_of out.old)) (W.contents (inner_of out.new))) }
+    ensures fault { IfErr result (FailsSo (S.content sources.now) asked.now (W.contents (inner_of out.old)) (W.contents (inner_of out.new))) }
+{
     let begun = begin_run(alloc, sources, asked, texts)?;
     let job = Job {
         schema: &begun.schema,

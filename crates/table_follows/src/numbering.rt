@@ -1,5 +1,8 @@
 //! An epoch's number in its answer.
 
+ghost use Rattle.std.specs.Prelude.{IfOk};
+ghost use Rattle.table_follows.specs.Followed.{IsNumberedAs};
+
 use itoa::Buffer;
 use std::alloc::{AllocError, Global};
 
@@ -7,7 +10,9 @@ use std::alloc::{AllocError, Global};
 const FIRST: &[u8] = b"epoch 0\n";
 
 /// The answer to one epoch by itself, with the number of that epoch in the place of 0.
-pub fn numbered(alloc: Global, number: u64, answer: &[u8]) -> Result<Vec<u8>, AllocError> {
+pub fn numbered(alloc: Global, number: u64, answer: &[u8]) -> Result<Vec<u8>, AllocError>
+    ensures { IfOk result (λ text. IsNumberedAs number answer.now text.items) }
+{
     let Some(rest) = answer.strip_prefix(FIRST) else {
         return Vec::from_slice(alloc, answer);
     };

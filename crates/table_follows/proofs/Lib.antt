@@ -1,0 +1,6 @@
+pub mod Answered
+pub mod Going
+pub mod Kept
+pub mod Others
+pub mod Ready
+pub mod Results

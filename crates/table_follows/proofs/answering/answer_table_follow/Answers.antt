@@ -1,0 +1,25 @@
+use Rattle.std.proofs.Common.{◌≡◌, ℕ, List, Option, inl, inr}
+use Rattle.std.specs.Prelude.{◌⊎◌}
+use Rattle.collector.specs.Watching.{inner_of}
+use Rattle.console.specs.Asked.{Known}
+use Rattle.table_runs.specs.declared.fault.RunFault.{RunFault}
+use Rattle.table_runs.specs.declared.line.TableRun.{TableRun}
+use Rattle.table_follows.specs.Followed.{FailsSo, HasFailed}
+use Rattle.table_follows.proofs.answering.answer_table_follow.Goals as goal
+
+failed : (known : Known) (asked : TableRun) (old new : Option (List ℕ)) (fault : RunFault) → FailsSo known asked old new fault
+    → (new ≡ old) ⊎ ((a : TableRun) × (f : RunFault) × HasFailed known a f old new)
+failed known asked old new fault (inl same) = inl same
+failed known asked old new fault (inr h) = inr (asked, fault, h)
+
+pub returns-in-Err-Tables-clause-fault : goal.returns-in-Err-Tables-clause-fault
+returns-in-Err-Tables-clause-fault g c =
+    inr (failed (g.S.Sources.content c.args.sources.now) c.in-Ok-Some.asked (g.W.Write.contents (inner_of c.args.out.now))
+    (g.W.Write.contents (inner_of c.follow_tables.new.out))
+    c.in-Err-Tables.field-0 c.in-Err-Tables.ensures.fault)
+
+pub returns-clause-fault : goal.returns-clause-fault
+returns-clause-fault g c =
+    inr (failed (g.S.Sources.content c.args.sources.now) c.in-Ok-Some.asked (g.W.Write.contents (inner_of c.args.out.now))
+    (g.W.Write.contents (inner_of c.follow_tables.new.out))
+    c.in-Err-Run.field-0 c.in-Err-Run.ensures.fault)
