@@ -12,7 +12,7 @@ use record_core::DeclaredInput;
 use thiserror::Error;
 
 /// Why no line was read.
-#[derive(Clone, Copy, Debug, PartialEq, Eq, Error)]
+#[derive(Clone, Copy, Debug, Error)]
 pub enum Stop {
     #[error("out of memory")]
     NoMemory,

@@ -16,14 +16,14 @@ use std::alloc::AllocError;
 use thiserror::Error;
 
 /// What a line says. The fields of a record are in the reader's buffer.
-#[derive(Clone, Copy, Debug, PartialEq, Eq)]
+#[derive(Clone, Copy)]
 pub enum Line {
     Epoch,
     Row { input: usize },
 }
 
 /// Why a line can't be read.
-#[derive(Clone, Copy, Debug, PartialEq, Eq, Error)]
+#[derive(Clone, Copy, Debug, Error)]
 pub enum LineError {
     #[error(transparent)]
     Fault(Fault),

@@ -6,7 +6,7 @@ use itoa::Buffer;
 use std::fmt;
 
 /// A number that a line shows, printed by `itoa`.
-#[derive(Clone, Copy, Debug, PartialEq, Eq)]
+#[derive(Clone, Copy)]
 pub struct Number(pub u64);
 
 impl fmt::Display for Number {

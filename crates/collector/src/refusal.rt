@@ -11,7 +11,7 @@ use std::alloc::{AllocError, AllocFailed};
 use thiserror::Error;
 
 /// What is wrong with a line that has its line feed.
-#[derive(Clone, Copy, Debug, PartialEq, Eq, Error)]
+#[derive(Clone, Copy, Debug, Error)]
 pub enum Fault {
     /// `a 1`, `a 1 ` or an empty line: an empty word, or a first word that isn't spelled like a name or keyword.
     #[error("no line of an input")]

@@ -16,7 +16,7 @@ use std::io::Write;
 const PIPE_PIECE: usize = 4096;
 
 /// The writer failed, or took no byte.
-#[derive(Clone, Copy, Debug, PartialEq, Eq)]
+#[derive(Clone, Copy)]
 pub struct Broken;
 
 /// The end of the last line that ends within the first `limit` bytes; 0 if none does.

@@ -1,7 +1,7 @@
 //! What the cells of a column are.
 
 /// What a column's cells spell.
-#[derive(Clone, Copy, Debug, PartialEq, Eq)]
+#[derive(Clone, Copy, PartialEq, Eq)]
 pub enum Kind {
     /// A whole number from -9223372036854775808 to 9223372036854775807, as `-7`.
     Int,
@@ -16,7 +16,7 @@ pub enum Kind {
 }
 
 /// What a cell with no byte is.
-#[derive(Clone, Copy, Debug, PartialEq, Eq)]
+#[derive(Clone, Copy)]
 pub enum Empty {
     /// It is refused.
     Refused,
@@ -27,7 +27,7 @@ pub enum Empty {
 }
 
 /// How a column's cells are read.
-#[derive(Clone, Copy, Debug, PartialEq, Eq)]
+#[derive(Clone, Copy)]
 pub struct Column {
     pub kind: Kind,
     pub empty: Empty,

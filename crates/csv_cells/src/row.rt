@@ -13,7 +13,7 @@ use csv::ByteRecord;
 use std::alloc::{AllocError, AllocFailed, Global};
 
 /// Why a record has no numbers.
-#[derive(Clone, Copy, Debug, PartialEq, Eq, thiserror::Error)]
+#[derive(Clone, Copy, Debug, thiserror::Error)]
 pub enum RowFault {
     #[error("another number of cells than of columns")]
     Length,

@@ -8,7 +8,7 @@ use std::alloc::AllocError;
 use thiserror::Error;
 
 /// Consecutive records of a text with the same cell in the column that is asked for.
-#[derive(Debug, Drop)]
+#[derive(Drop)]
 pub struct Epoch {
     /// The bytes of the header row, and then those of the records: a whole text of CSV.
     pub text: Vec<u8>,
@@ -21,7 +21,7 @@ pub struct Epoch {
 }
 
 /// What is left at the end of a text.
-#[derive(Debug, Drop)]
+#[derive(Drop)]
 pub struct Ending {
     /// The header row, or all of a text that ends in it.
     pub header: Vec<u8>,
@@ -30,7 +30,7 @@ pub struct Ending {
 }
 
 /// Why a text isn't split on.
-#[derive(Clone, Copy, Debug, PartialEq, Eq, Error)]
+#[derive(Clone, Copy, Debug, Error)]
 pub enum SplitFault {
     #[error("out of memory")]
     NoMemory,

@@ -4,7 +4,7 @@ ghost use Rattle.std.specs.Prelude.{◌≡◌};
 ghost use Rattle.csv_epochs.specs.Places.{next_place, place_before};
 
 /// Where in a record a byte comes.
-#[derive(Clone, Copy, Debug, PartialEq, Eq)]
+#[derive(Clone, Copy)]
 pub enum Place {
     /// Before the cell that is asked for: so many commas come before it, at least one.
     Before(usize),

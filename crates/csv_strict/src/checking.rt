@@ -7,7 +7,7 @@ use crate::state::State;
 use thiserror::Error;
 
 /// Why a text isn't one of CSV.
-#[derive(Clone, Copy, Debug, PartialEq, Eq, Error)]
+#[derive(Clone, Copy, Debug, Error)]
 pub enum Fault {
     /// A line with no byte. A record of one empty cell is written `""`.
     #[error("an empty line")]
@@ -27,7 +27,7 @@ pub enum Fault {
 }
 
 /// A fault, and its line, counted from 1: of a quote that is never closed the line where it stands.
-#[derive(Clone, Copy, Debug, PartialEq, Eq)]
+#[derive(Clone, Copy, Debug)]
 pub struct Refusal {
     pub fault: Fault,
     pub line: u64,

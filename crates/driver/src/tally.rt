@@ -11,7 +11,7 @@ use std::marker::Model;
 use views::Views;
 
 /// What a vertex did at a worker. A number that would pass 18446744073709551615 stays there.
-#[derive(Clone, Copy, Debug, PartialEq, Eq)]
+#[derive(Clone, Copy, PartialEq, Eq)]
 pub struct Counts {
     /// The events that were committed.
     pub events: u64,

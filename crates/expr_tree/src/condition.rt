@@ -13,7 +13,7 @@ use std::alloc::Allocator;
 use std::mem;
 
 /// How two scalars are compared, as signed numbers.
-#[derive(Clone, Copy, Debug, PartialEq, Eq)]
+#[derive(Clone, Copy, PartialEq, Eq)]
 pub enum Comparison {
     Equal,
     NotEqual,
@@ -24,7 +24,7 @@ pub enum Comparison {
 }
 
 /// What joins two conditions.
-#[derive(Clone, Copy, Debug, PartialEq, Eq)]
+#[derive(Clone, Copy, PartialEq, Eq)]
 pub enum Connective {
     And,
     Or,

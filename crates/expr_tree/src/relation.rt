@@ -14,21 +14,21 @@ use std::alloc::Allocator;
 use std::mem;
 
 /// A column by its number, from 0, where it is named outside a scalar.
-#[derive(Clone, Copy, Debug, PartialEq, Eq)]
+#[derive(Clone, Copy)]
 pub struct Column {
     pub span: Span,
     pub index: u64,
 }
 
 /// A pair of columns of a join: one of the left relation, one of the right.
-#[derive(Clone, Copy, Debug, PartialEq, Eq)]
+#[derive(Clone, Copy)]
 pub struct Pair {
     pub left: Column,
     pub right: Column,
 }
 
 /// An aggregate over the records of a group, with repeats.
-#[derive(Clone, Copy, Debug, PartialEq, Eq)]
+#[derive(Clone, Copy)]
 pub enum Agg {
     Count(Span),
     Sum(Span, Column),
@@ -37,7 +37,7 @@ pub enum Agg {
 }
 
 /// How two relations of one arity are put together.
-#[derive(Clone, Copy, Debug, PartialEq, Eq)]
+#[derive(Clone, Copy, PartialEq, Eq)]
 pub enum SetOperator {
     /// All records of both, with repeats.
     Concat,
@@ -48,7 +48,7 @@ pub enum SetOperator {
 }
 
 /// What a turn of a loop gets.
-#[derive(Clone, Copy, Debug, PartialEq, Eq)]
+#[derive(Clone, Copy, PartialEq, Eq)]
 pub enum LoopForm {
     /// All that the turn before gave. The loop gives what its last turn gives.
     Iterate,

@@ -12,7 +12,7 @@ use std::alloc::Allocator;
 use std::mem;
 
 /// An operator between two scalars.
-#[derive(Clone, Copy, Debug, PartialEq, Eq)]
+#[derive(Clone, Copy, PartialEq, Eq)]
 pub enum Operator {
     Add,
     Subtract,

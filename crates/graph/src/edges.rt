@@ -10,11 +10,11 @@ use record_core::NoMemory;
 use std::alloc::Global;
 
 /// An edge by its number, from 0.
-#[derive(Clone, Copy, Debug, PartialEq, Eq)]
+#[derive(Clone, Copy)]
 pub struct EdgeId(pub u32);
 
 /// An edge: the out port where it begins, the vertex that it enters, and the in port.
-#[derive(Clone, Copy, Debug, PartialEq, Eq)]
+#[derive(Clone, Copy)]
 pub struct Edge {
     pub source: Port,
     pub target: VertexId,

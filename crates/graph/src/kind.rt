@@ -11,7 +11,7 @@ use loop_context::Action;
 
 /// How a vertex answers what comes in: a stateless one at once, from the message alone; a stateful one at once, from all that it has
 /// absorbed; a notified one when no more can come at that time.
-#[derive(Clone, Copy, Debug, PartialEq, Eq)]
+#[derive(Clone, Copy, PartialEq, Eq)]
 pub enum Role {
     Input,
     Stateless,

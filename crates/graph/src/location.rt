@@ -9,7 +9,7 @@ use crate::graph::Graph;
 use crate::vertex::VertexId;
 
 /// A place of a graph, where a message is on its way or a vertex waits to be notified.
-#[derive(Clone, Copy, Debug, PartialEq, Eq)]
+#[derive(Clone, Copy)]
 pub enum Location {
     Edge(EdgeId),
     Vertex(VertexId),

@@ -11,7 +11,7 @@ use std::alloc::Global;
 pub const MAX_VERTICES: usize = 4096;
 
 /// A vertex by its number, from 0.
-#[derive(Clone, Copy, Debug, PartialEq, Eq)]
+#[derive(Clone, Copy, PartialEq, Eq)]
 pub struct VertexId(pub u32);
 
 /// What a vertex does with the records that come to it. `Gate` and `Unseen` have the number of turns of their loop, and `Hold`
@@ -38,14 +38,14 @@ pub enum Kind {
 }
 
 /// An out port of a vertex.
-#[derive(Clone, Copy, Debug, PartialEq, Eq)]
+#[derive(Clone, Copy)]
 pub struct Port {
     pub vertex: VertexId,
     pub out: u32,
 }
 
 /// The ports that feed a vertex's in ports, in order.
-#[derive(Clone, Copy, Debug, PartialEq, Eq)]
+#[derive(Clone, Copy)]
 pub enum Sources {
     Nothing,
     One(Port),

@@ -1,7 +1,7 @@
 //! What a number stands for.
 
 /// What a number counts or measures.
-#[derive(Clone, Copy, Debug, PartialEq, Eq)]
+#[derive(Clone, Copy)]
 pub enum Quantity {
     /// A whole number.
     Whole,
@@ -16,7 +16,7 @@ pub enum Quantity {
 }
 
 /// What a field of a record stands for.
-#[derive(Clone, Copy, Debug, PartialEq, Eq)]
+#[derive(Clone, Copy)]
 pub enum Kind {
     /// A text, by its place in a dictionary.
     Text,

@@ -7,7 +7,7 @@ ghost use Rattle.lexer.specs.Lexemes.{shape_of, passes, IsLexeme, IsLongest};
 use crate::mark::Mark;
 
 /// What begins with a byte.
-#[derive(Clone, Copy, Debug, PartialEq, Eq)]
+#[derive(Clone, Copy)]
 pub(crate) enum Shape {
     /// A letter: a name or a keyword.
     Word,
@@ -20,7 +20,7 @@ pub(crate) enum Shape {
 }
 
 /// Bytes that may follow one another in one token, or between tokens.
-#[derive(Clone, Copy, Debug, PartialEq, Eq)]
+#[derive(Clone, Copy)]
 pub(crate) enum Class {
     Space,
     Digit,

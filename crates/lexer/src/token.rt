@@ -4,7 +4,7 @@ use crate::mark::Mark;
 use record_core::{Keyword, Span};
 
 /// The kind of a token. The text of a name is its span's slice of the text.
-#[derive(Clone, Copy, Debug, PartialEq, Eq)]
+#[derive(Clone, Copy, PartialEq, Eq)]
 pub enum TokenKind {
     Name,
     /// At most 9223372036854775807.
@@ -16,7 +16,7 @@ pub enum TokenKind {
 }
 
 /// A token, and its place.
-#[derive(Clone, Copy, Debug, PartialEq, Eq)]
+#[derive(Clone, Copy)]
 pub struct Token {
     pub kind: TokenKind,
     pub span: Span,

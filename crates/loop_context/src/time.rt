@@ -14,7 +14,7 @@ use std::marker::Model;
 pub const MAX_LOOPS: usize = 16;
 
 /// An epoch, and the counters of the loops around a place, outermost first: at most `MAX_LOOPS`.
-#[derive(Clone, Drop, Debug, PartialEq, Eq, PartialOrd, Ord, Hash)]
+#[derive(Clone, Drop, PartialEq, Eq, PartialOrd, Ord, Hash)]
 pub struct Time {
     epoch: u32,
     counters: ArrayVec<u32, MAX_LOOPS>,

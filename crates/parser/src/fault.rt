@@ -10,7 +10,7 @@ use std::alloc::{AllocError, AllocFailed};
 pub const MAX_HEIGHT: u32 = 64;
 
 /// Why no phrase was read, before a refusal is made of it.
-#[derive(Clone, Copy, Debug, PartialEq, Eq)]
+#[derive(Clone, Copy)]
 pub enum Fault {
     /// The token at that place can't follow the tokens before it; `None` is the end of the text.
     Unexpected(Option<Span>),

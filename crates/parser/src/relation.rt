@@ -34,7 +34,7 @@ pub enum Form {
 }
 
 /// The keyword and the bracket that a form begins with.
-#[derive(Clone, Copy, Debug, PartialEq, Eq)]
+#[derive(Clone, Copy)]
 pub struct Opening {
     pub keyword: Span,
     pub bracket: Span,

@@ -8,7 +8,7 @@ use loop_context::Time;
 use std::marker::Model;
 
 /// A time with a location.
-#[derive(Drop, Debug)]
+#[derive(Drop)]
 pub struct Pointstamp {
     time: Time,
     location: Location,

@@ -20,7 +20,7 @@ use std::marker::Model;
 
 /// A name: a letter `a` to `z`, then letters, digits and `_`; 1 to 32 bytes in all, and not a keyword. It compares, orders and hashes like its list
 /// of bytes.
-#[derive(Drop, Debug)]
+#[derive(Drop)]
 pub struct Name {
     bytes: ArrayVec<u8, 32>,
 }

@@ -18,7 +18,7 @@ use std::marker::Model;
 pub const MAX_FIELDS: usize = 16;
 
 /// A record: 1 to 16 signed 64-bit fields. It compares, orders and hashes like its list of fields.
-#[derive(Drop, Debug)]
+#[derive(Drop)]
 pub struct Record {
     items: ArrayVec<i64, 16>,
 }

@@ -4,7 +4,7 @@ ghost use Rattle.std.specs.Prelude.{◌≡◌, ◌==◌, option_map, IfSome};
 ghost use Rattle.std.specs.List.{find};
 
 /// What a refusal means. Texts are UTF-8; a sentence of `text` is a line.
-#[derive(Clone, Copy, Debug, PartialEq, Eq)]
+#[derive(Clone, Copy)]
 pub struct Explanation {
     /// Its number: 1 to 25 of queries, 26 to 30 of queries by a schema, 31 to 40 of a schedule's steps, 41 to 47 of the lines of inputs, of which 43, 44 and 46 are of a
     /// schedule's lines too.

@@ -8,7 +8,7 @@ use std::alloc::{AllocError, AllocFailed};
 use thiserror::Error;
 
 /// Why work on records could not be done: by a batch, a shard, an event or an engine.
-#[derive(Clone, Copy, Debug, PartialEq, Eq, Error)]
+#[derive(Clone, Copy, Debug, Error)]
 pub enum WorkFault {
     /// An allocator refused a growth.
     #[error("out of memory")]

@@ -31,7 +31,7 @@ pub enum Line<'a> {
 }
 
 /// Why a line can't be read.
-#[derive(Clone, Copy, Debug, PartialEq, Eq)]
+#[derive(Clone, Copy)]
 pub enum LineError {
     Fault(Fault),
     NoMemory,

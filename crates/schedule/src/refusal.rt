@@ -9,7 +9,7 @@ use std::alloc::{AllocError, AllocFailed};
 use thiserror::Error;
 
 /// What is wrong with a line that has its line feed.
-#[derive(Clone, Copy, Debug, PartialEq, Eq, Error)]
+#[derive(Clone, Copy, Debug, Error)]
 pub enum Fault {
     /// `q 1`, `t 0`, `f a 1`: a first word that isn't a verb's letter, a wrong number of words, an empty word, or a name that isn't spelled like a
     /// name or keyword.
@@ -33,7 +33,7 @@ impl Fault {
 }
 
 /// The first faulty line of a schedule, counted from 1, with the code of its fault (`NO_LINE_FEED` for a last line without line feed); or lack of memory.
-#[derive(Clone, Copy, Debug, PartialEq, Eq, Error)]
+#[derive(Clone, Copy, Debug, Error)]
 pub enum ScheduleRefusal {
     #[error("refused {code} at line {line}", code = Number(u64::from(*.code)), line = Number(*.line))]
     At { code: u8, line: u64 },

@@ -6,7 +6,7 @@ ghost use Rattle.schedule.specs.declared.verb.Verb.{Verb};
 ghost use Rattle.schedule.specs.declared.verb.Verb.TheVariants.{Apply};
 
 /// What a line says to do.
-#[derive(Clone, Copy, Debug, PartialEq, Eq)]
+#[derive(Clone, Copy)]
 pub enum Verb {
     Feed,
     Seal,
@@ -19,7 +19,7 @@ pub enum Verb {
 }
 
 /// How the workers of a schedule see the progress of the run.
-#[derive(Clone, Copy, Debug, PartialEq, Eq)]
+#[derive(Clone, Copy)]
 pub enum ViewKind {
     /// All workers see the same, at once.
     Shared,

@@ -7,7 +7,7 @@ ghost use Rattle.sql.specs.Text.{closing_text, made_word, making_of, opening_tex
 ghost use Rattle.sql.specs.Dialects.{arithmetic_of, begin_text, create_word, database_name, dialect_of, end_text, has_recursion, operand_close, operand_open, promise_text, quote, sum_close, sum_open, wrap_close, wrap_open};
 
 /// The database that a script is for.
-#[derive(Clone, Copy, Debug, PartialEq, Eq)]
+#[derive(Clone, Copy)]
 pub enum Dialect {
     Postgres,
     Sqlite,
@@ -15,7 +15,7 @@ pub enum Dialect {
 }
 
 /// How a script computes.
-#[derive(Clone, Copy, Debug, PartialEq, Eq)]
+#[derive(Clone, Copy)]
 pub enum Arithmetic {
     /// By BIGINT: a result of more than 64 bits is an error.
     Plain,
@@ -24,7 +24,7 @@ pub enum Arithmetic {
 }
 
 /// For which database a script is, and how it computes. SQLite has no numbers of more than 64 bits by which to wrap.
-#[derive(Clone, Copy, Debug, PartialEq, Eq)]
+#[derive(Clone, Copy)]
 pub enum Form {
     Postgres(Arithmetic),
     Sqlite,
@@ -32,7 +32,7 @@ pub enum Form {
 }
 
 /// How the tables and the results are laid out.
-#[derive(Clone, Copy, Debug, PartialEq, Eq)]
+#[derive(Clone, Copy)]
 pub enum Layout {
     /// As a script: each table is made by a statement of its own.
     Script,
@@ -41,7 +41,7 @@ pub enum Layout {
 }
 
 /// Where a table is made.
-#[derive(Clone, Copy, Debug, PartialEq, Eq)]
+#[derive(Clone, Copy)]
 pub enum Making {
     /// By statements of its own.
     Alone,
@@ -50,7 +50,7 @@ pub enum Making {
 }
 
 /// Of which epochs a script is.
-#[derive(Clone, Copy, Debug, PartialEq, Eq)]
+#[derive(Clone, Copy)]
 pub enum Epochs {
     /// Of one: the tables have its rows alone.
     One,
@@ -59,7 +59,7 @@ pub enum Epochs {
 }
 
 /// The script that is asked for: its form and layout, of which epochs it is, and the name of the only output that it is to have, or all outputs.
-#[derive(Clone, Copy, Debug)]
+#[derive(Clone, Copy)]
 pub struct Request<'a> {
     pub form: Form,
     pub layout: Layout,
@@ -68,7 +68,7 @@ pub struct Request<'a> {
 }
 
 /// How a table is written: in which form, of which epochs, and where it is made.
-#[derive(Clone, Copy, Debug)]
+#[derive(Clone, Copy)]
 pub struct Style {
     pub form: Form,
     pub epochs: Epochs,

@@ -9,7 +9,7 @@ use record_core::NoMemory;
 use std::alloc::Allocator;
 
 /// A table that a query reads: an input's by its place, or one that the script makes by its number, each from 0.
-#[derive(Clone, Copy, Debug, PartialEq, Eq)]
+#[derive(Clone, Copy)]
 pub enum Table {
     Given(u64),
     Made(u64),

@@ -6,7 +6,7 @@ use expr_tree::Program;
 use std::alloc::{Allocator, Global};
 
 /// The numbers of fields that a refusal is about.
-#[derive(Clone, Copy, Debug, PartialEq, Eq)]
+#[derive(Clone, Copy)]
 pub enum Arities {
     /// Of the relation that hasn't the column; or of the input or the form that has 0 fields, or over 16.
     One(u64),
