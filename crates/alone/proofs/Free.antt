@@ -1,11 +1,9 @@
 -- A worker is free again once its event is committed.
-use Rattle.std.proofs.Common.{◌≡◌, ◌<◌, ◌∙◌, ℕ, List, [], ◌∷◌, length, refl, sym, ap, subst, arith, Some}
+use Rattle.std.proofs.Common.{◌≡◌, ◌<◌, ◌∙◌, ℕ, List, [], ◌∷◌, length, sym, ap, subst, arith, Some}
 use Rattle.machine.specs.Step.{Step}
 use Rattle.machine.specs.World.{Event, Held, World}
 use Rattle.machine.proofs.Progress.{put_here}
-use Rattle.events.specs.Jobs.{Job, Pass}
-use Rattle.tokens.specs.declared.rule.Place.{Place}
-use Rattle.tokens.specs.declared.rule.Place.TheVariants.{Home, Out, Lost}
+use Rattle.events.specs.Jobs.{Pass}
 use Rattle.rows.specs.declared.fault.WorkFault.{WorkFault}
 use Rattle.rows.specs.declared.fault.WorkFault.TheVariants as fault
 use Rattle.board.specs.Answers.{Gathers, Hands, MergesAll}
@@ -17,14 +15,10 @@ use Rattle.driver.specs.Ends.{ended_of}
 use Rattle.driver.specs.declared.ended.Ended.{Ended}
 use Rattle.alone.specs.Rests.{IsFree, StaysFree}
 use Rattle.alone.proofs.Less.{claim_works, gathers_lead, reached_on}
-
-home_of : (p : Place Job) → held_of p ≡ Held.nothing → p ≡ Home
-home_of Home e = refl
-home_of (Out j) e = absurd (cc)
-home_of (Lost j) e = absurd (cc)
+use Rattle.alone.proofs.Moved.{at_home}
 
 free_in : (t : Shown) (k : ℕ) (w : World) → Shows t w → k < length t.sides → w.held k ≡ Held.nothing → IsFree t k
-free_in t k w shows l e = (l, home_of (side_at t k).place (sym (shows.held k l) ∙ e))
+free_in t k w shows l e = (l, at_home (side_at t k).place (sym (shows.held k l) ∙ e))
 
 -- the step is a feed, a seal, a close or a merge, which leave what the workers hold
 abbrev pub LeavesHeld : Step → Type 0

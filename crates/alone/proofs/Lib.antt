@@ -1,3 +1,5 @@
 pub mod Free
 pub mod Less
+pub mod Moved
 pub mod Resting
+pub mod Stepping

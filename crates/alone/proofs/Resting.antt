@@ -2,12 +2,12 @@
 use Rattle.std.proofs.Common.{◌≡◌, ◌<◌, ℕ, List, [], ◌∷◌, length, sym, ap, ◌∙◌, arith, slice_get, Some, true, false, subst, ◌⊎◌, inl, inr}
 use Rattle.semantics.specs.Could.{Pointstamp, at_vertex}
 use Rattle.semantics.specs.Time.{at_epoch}
-use Rattle.semantics.specs.Graph.{output_number}
+use Rattle.semantics.specs.Graph.{input_count, output_number}
 use Rattle.graph.specs.Shown.{shown_graph}
 use Rattle.machine.specs.Active.{IsActive}
 use Rattle.machine.specs.Headline.{IsRunOn}
 use Rattle.ending.specs.Ending.{IsOver}
-use Rattle.ending.proofs.Idle.{idle_passed}
+use Rattle.ending.proofs.Idle.{idle_drained, idle_passed}
 use Rattle.machine.specs.World.{Event, Held, World}
 use Rattle.machine.specs.Step.{Step}
 use Rattle.tokens.specs.declared.rule.Place.TheVariants.{Home}
@@ -16,11 +16,13 @@ use Rattle.board.specs.Promises.{IsDrained}
 use Rattle.board.specs.Shown.{Shown, input_at, net, side_at, held_of}
 use Rattle.board.specs.Showing.{Shows}
 use Rattle.board.specs.Reached.{IsReached}
+use Rattle.board.specs.WorkerShown.{AreClosed}
 use Rattle.rows.specs.declared.fault.WorkFault.{WorkFault}
 use Rattle.rows.specs.declared.fault.WorkFault.TheVariants as fault
 use Rattle.driver.specs.declared.ended.Ended.{Ended}
 use Rattle.alone.specs.Rests.{HasPassedOver, IsAtRest, IsDone}
 use Rattle.driver.specs.Ends.{ended_of}
+use Rattle.alone.proofs.Moved.{at_home}
 
 none_in : {X : Type 0} (xs : List X) (at : ℕ) (x : X) → xs ≡ [] → slice_get xs at ≡ Some x → ⊥
 none_in [] at x e s = cc
@@ -74,7 +76,27 @@ passed_over s r runs rest epoch over output w shows q active c =
     there i (inl e) = inl (r.shows.closed i ∙ e)
     there i (inr l) = inr (let e = r.shows.open_epoch i in omega (arith, e, l))
 
+-- a board at rest whose inputs are closed has no work left
+pub rest_drained : (s : Shown) → IsReached s → length s.inputs ≡ input_count (shown_graph s.graph) → s.stopped ≡ false → IsAtRest s → AreClosed s → IsDrained s
+rest_drained s r size runs rest shut =
+    let is : IsRunOn (shown_graph s.graph) (length s.sides) r.steps r.world = record { flows = r.flows; some = r.some; run = r.run } in
+    let d = idle_drained (shown_graph s.graph) (length s.sides) r.steps r.world is (r.shows.stopped ∙ runs) (rest r.world r.shows) (λ i l. r.shows.closed i ∙ shut i (omega (arith, l, size))) in
+    record {
+      closed = shut;
+      idle = λ k l. record {
+        place = at_home (side_at s k).place (sym (r.shows.held k l) ∙ d.held k l);
+        mail = sym (r.shows.mail k l) ∙ d.mail k l;
+        requests = sym (r.shows.requests k l) ∙ d.requests k l;
+      };
+    }
+
 -- what the two answers of a claim show
+pub idle_drained_then : (s t : Shown) (k : ℕ) → IsReached s → s.stopped ≡ false → k < length s.sides → length t.sides ≡ 1 → (side_at s k).place ≡ Home → HasNoChoice s k → t ≡ s
+    → length t.inputs ≡ input_count (shown_graph t.graph) → AreClosed t → IsDrained t
+idle_drained_then s t k r runs l one home none same size shut =
+    subst (λ (x : Shown). length x.inputs ≡ input_count (shown_graph x.graph) → AreClosed x → IsDrained x) (sym same)
+    (λ size' shut'. rest_drained s r size' runs (at_rest s k l (sym (ap (λ (x : Shown). length x.sides) same) ∙ one) home none) shut') size shut
+
 pub idle_passed_over : (s t : Shown) (k : ℕ) → IsReached s → s.stopped ≡ false → k < length s.sides → length t.sides ≡ 1 → (side_at s k).place ≡ Home → HasNoChoice s k → t ≡ s → HasPassedOver t
 idle_passed_over s t k r runs l one home none same =
     subst HasPassedOver (sym same) (passed_over s r runs (at_rest s k l (sym (ap (λ (x : Shown). length x.sides) same) ∙ one) home none))

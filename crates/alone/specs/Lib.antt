@@ -1,2 +1,4 @@
+pub mod Moves
 pub mod Parts
 pub mod Rests
+pub mod Scenes

@@ -1,11 +1,14 @@
 //! The loop of one thread over a board.
 
-ghost use Rattle.std.specs.Prelude.{◌≡◌, ◌≤◌, ◌+◌, length, true};
+ghost use Rattle.std.specs.Prelude.{◌≡◌, ◌≤◌, ◌+◌, length, true, false};
 ghost use Rattle.events.specs.Outputs.{counted};
 ghost use Rattle.driver.specs.Tallies.{StaysTally};
 ghost use Rattle.alone.specs.Parts.{DoesOne, IfOff, IfPartly, StaysFreeThen};
 ghost use Rattle.driver.specs.Received.{received_of};
+ghost use Rattle.alone.specs.Moves.{Moves};
 ghost use Rattle.alone.specs.Rests.{HasPassedOver, HasStopped, IsAtRest, IsDone, IsFree, StaysFree};
+ghost use Rattle.board.specs.WorkerShown.{AreClosed};
+ghost use Rattle.board.specs.Promises.{IsDrained};
 
 use board::{Board, Claimed};
 use driver::{Ended, Tally, claim, process};
@@ -14,7 +17,7 @@ use std::alloc::Global;
 use views::Views;
 
 /// How far a worker came with its events.
-#[derive(Clone, Copy, Debug, PartialEq, Eq)]
+#[derive(Clone, Copy)]
 pub enum Worked {
     /// It did as many as it was to do, and may have more.
     Partly,
@@ -33,6 +36,9 @@ fn work_once<V: Views, G: Gate>(
 ) -> Worked
     ensures passed { IfOff result (λ end. IsDone end → length board.new.shown.sides ≡ 1 → HasPassedOver board.new.shown) }
     ensures rests { IfOff result (λ end. IsDone end → length board.new.shown.sides ≡ 1 → IsAtRest board.new.shown) }
+    ensures runs { IfOff result (λ end. IsDone end → board.new.shown.stopped ≡ false) }
+    ensures drained { IfOff result (λ end. IsDone end → length board.new.shown.sides ≡ 1 → AreClosed board.new.shown → IsDrained board.new.shown) }
+    ensures moves { Moves board.old.shown board.new.shown }
     ensures stopped { IfOff result (λ end. HasStopped end → board.new.shown.stopped ≡ true) }
     ensures graph { board.new.shown.graph ≡ board.old.shown.graph }
     ensures free { IsFree board.old.shown worker → StaysFreeThen board.new.shown worker result }
@@ -52,7 +58,10 @@ fn work_once<V: Views, G: Gate>(
             }
             Err(fault) => Worked::Off(Some(Ended::from(fault))),
         },
-        Claimed::Idle => Worked::Off(None),
+        Claimed::Idle => {
+            board.law_inputs();
+            Worked::Off(None)
+        }
         Claimed::Drained => Worked::Off(Some(Ended::Drained)),
         Claimed::Stopped => Worked::Off(Some(Ended::Stopped)),
         Claimed::Busy => Worked::Off(Some(Ended::Busy)),
@@ -71,6 +80,9 @@ pub fn work_off<V: Views, G: Gate>(
 ) -> Option<Ended>
     ensures passed { IsDone result → length board.new.shown.sides ≡ 1 → HasPassedOver board.new.shown }
     ensures rests { IsDone result → length board.new.shown.sides ≡ 1 → IsAtRest board.new.shown }
+    ensures runs { IsDone result → board.new.shown.stopped ≡ false }
+    ensures drained { IsDone result → length board.new.shown.sides ≡ 1 → AreClosed board.new.shown → IsDrained board.new.shown }
+    ensures moves { Moves board.old.shown board.new.shown }
     ensures graph { board.new.shown.graph ≡ board.old.shown.graph }
     ensures stopped { HasStopped result → board.new.shown.stopped ≡ true }
     ensures free { IsFree board.old.shown worker → StaysFree board.new.shown worker result }
@@ -99,6 +111,9 @@ pub fn work_some<V: Views, G: Gate>(
 ) -> Worked
     ensures passed { IfOff result (λ end. IsDone end → length board.new.shown.sides ≡ 1 → HasPassedOver board.new.shown) }
     ensures rests { IfOff result (λ end. IsDone end → length board.new.shown.sides ≡ 1 → IsAtRest board.new.shown) }
+    ensures runs { IfOff result (λ end. IsDone end → board.new.shown.stopped ≡ false) }
+    ensures drained { IfOff result (λ end. IsDone end → length board.new.shown.sides ≡ 1 → AreClosed board.new.shown → IsDrained board.new.shown) }
+    ensures moves { Moves board.old.shown board.new.shown }
     ensures graph { board.new.shown.graph ≡ board.old.shown.graph }
     ensures stopped { IfOff result (λ end. HasStopped end → board.new.shown.stopped ≡ true) }
     ensures free { IsFree board.old.shown worker → StaysFreeThen board.new.shown worker result }

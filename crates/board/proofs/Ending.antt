@@ -9,7 +9,7 @@ use Rattle.graph.specs.Shown.{shown_graph}
 use Rattle.machine.specs.World.{Event}
 use Rattle.machine.specs.Active.{event_pointstamp}
 use Rattle.machine.specs.Processing.{event_time}
-use Rattle.progress.specs.Content.{times_in}
+use Rattle.views.specs.Content.{times_in}
 use Rattle.tokens.specs.declared.rule.Place.TheVariants.{Out}
 use Rattle.events.specs.Happenings.{requests_of}
 use Rattle.events.specs.Jobs.{Job, Pass}

@@ -47,3 +47,4 @@ pub mod Choosing
 pub mod FedBatches
 pub mod RefusalNumbers
 pub mod Forgetting
+pub use Rattle.views.proofs.PostedBatches

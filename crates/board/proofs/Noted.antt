@@ -4,7 +4,7 @@ use Rattle.std.proofs.lemmas.List.{take_more}
 use Rattle.semantics.specs.Could.{Pointstamp}
 use Rattle.semantics.proofs.MultisetSums.{total-append}
 use Rattle.machine.specs.Active.{message_pointstamp, one_if_same}
-use Rattle.progress.specs.Content.{times_in}
+use Rattle.views.specs.Content.{times_in}
 use Rattle.events.specs.declared.letter.Letter.{Letter}
 use Rattle.board.specs.WorkerShown.{letters_count}
 

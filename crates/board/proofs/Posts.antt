@@ -14,7 +14,7 @@ use Rattle.machine.specs.Engine.{network}
 use Rattle.machine.specs.Headline.{IsRunOn}
 use Rattle.machine.specs.Posting.{MayPost}
 use Rattle.machine.specs.Step.{Allowed, Step}
-use Rattle.progress.specs.Content.{times_in}
+use Rattle.views.specs.Content.{times_in}
 use Rattle.tokens.specs.declared.rule.Place.TheVariants.{Home}
 use Rattle.views.specs.Waiting.{Posted, Waiting, after_post, batch}
 use Rattle.events.specs.declared.letter.Letter.{Letter}

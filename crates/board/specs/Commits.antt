@@ -1,7 +1,7 @@
 -- What a commit does.
 use Rattle.std.specs.Prelude.{◌≡◌, ◌+◌, ℕ, List, length, Some, slice_get}
 use Rattle.semantics.specs.Multiset.{Record}
-use Rattle.progress.specs.Content.{times_in}
+use Rattle.views.specs.Content.{times_in}
 use Rattle.semantics.specs.Time.{at_epoch}
 use Rattle.graph.specs.Shown.{shown_graph}
 use Rattle.machine.specs.Engine.{network}

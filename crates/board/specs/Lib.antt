@@ -21,3 +21,6 @@ pub mod Fresh
 pub mod Looks
 pub mod Batches
 pub mod Forgetting
+pub use Rattle.events.specs.Jobs
+pub use Rattle.events.specs.Outputs
+pub use Rattle.events.specs.TooMany

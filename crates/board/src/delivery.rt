@@ -3,7 +3,7 @@
 ghost use Rattle.std.specs.Prelude.{◌≡◌, ◌≢◌, ◌<◌, ◌≤◌, ◌+◌, ℕ, [], length, vec_capacity, OnOk};
 ghost use Rattle.semantics.specs.Could.{Pointstamp as Active};
 ghost use Rattle.graph.specs.Limits.{max_vertices};
-ghost use Rattle.progress.specs.Content.{times_in};
+ghost use Rattle.views.specs.Content.{times_in};
 ghost use Rattle.events.specs.Happenings.{requests_of};
 ghost use Rattle.board.specs.WorkerShown.{AreWithin, HasRoom, worker_in, letters_count, requests_count, sides_of};
 ghost use Rattle.board.specs.Shown.{side_in};

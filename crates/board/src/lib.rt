@@ -78,8 +78,10 @@ mod worker_set;
 
 pub use board::{Board, Claimed, CommitRefusal};
 pub use codes::WRONG_FIELD_COUNT;
+pub use events::{Done, Gate, Work};
 pub use gathering::gather;
 pub use look::{Look, OutputLook};
 pub use refusal::StepRefusal;
 pub use sent::{HEAVY, Sent};
+pub use views::Views;
 pub use worker_set::WorkerSet;

@@ -10,11 +10,10 @@ ghost use Rattle.board.specs.Showing.{Shows};
 use crate::board::Board;
 use graph::Graph;
 use path_summary::Paths;
-use progress::LocationTracker;
 use record_core::NoMemory;
 use std::alloc::Global;
 use std::sync::Arc;
-use views::{Direct, LocalViews};
+use views::{Direct, LocalViews, LocationTracker};
 
 impl Board<Direct<LocationTracker>> {
     /// A board that runs a graph on 1 to 64 workers, all of which see one tracker. The inputs are open at epoch 0.

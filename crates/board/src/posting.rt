@@ -5,7 +5,7 @@ ghost use Rattle.semantics.specs.Could.{CouldResultIn, NoneOf, Pointstamp as Act
 ghost use Rattle.semantics.specs.Dataflow.{IsDataflow};
 ghost use Rattle.semantics.specs.Graph.{input_count};
 ghost use Rattle.machine.specs.Posting.{MayPost};
-ghost use Rattle.progress.specs.Content.{times_in};
+ghost use Rattle.views.specs.Content.{times_in};
 ghost use Rattle.views.specs.Waiting.{IsSeenBy, after_post, batch};
 
 use path_summary::Pointstamp;

@@ -49,7 +49,7 @@ pub fn batch_of(alloc: Global, fields: &[i64]) -> Option<Batch>
 }
 
 /// The result of a turn.
-#[derive(Clone, Copy, Debug, PartialEq, Eq)]
+#[derive(Clone, Copy)]
 pub enum Turn {
     Stopped,
     Busy,

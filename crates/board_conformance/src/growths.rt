@@ -108,7 +108,7 @@ pub fn board_after(
 }
 
 /// Why a schedule ended early.
-#[derive(Clone, Copy, Debug, PartialEq, Eq)]
+#[derive(Clone, Copy)]
 enum Fault {
     /// After a refusal the board wasn't as before, or it refused the same call again.
     Spoiled,

@@ -21,7 +21,7 @@ struct Twins {
 }
 
 /// What was seen after any of the steps of a schedule.
-#[derive(Clone, Copy, Debug, PartialEq, Eq)]
+#[derive(Clone, Copy)]
 struct Seen {
     /// Changes waited on the board with late views.
     waiting: bool,

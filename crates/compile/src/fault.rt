@@ -9,7 +9,7 @@ use record_core::{Refusal, Span};
 use thiserror::Error;
 
 /// Why a query text has no graph.
-#[derive(Clone, Copy, Debug, PartialEq, Eq, Error)]
+#[derive(Clone, Copy, Debug, Error)]
 pub enum CompileFault {
     /// The query's first fault: its code, and the bytes where it is.
     #[error("refused {code} at {start}..{end}", code = Number(u64::from(*.code)), start = Number(u64::from(.span.start)), end = Number(u64::from(.span.end)))]

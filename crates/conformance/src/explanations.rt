@@ -4,7 +4,9 @@ use crate::unwatched::{on_one, unwatched};
 use collector::Watched;
 use console::{Fault, Texts, ViewKind, Workers, check_query, replay_schedule, run};
 use diagnostics::{TextNames, explain_fault, row_of_word};
-use refusals::{Explanation, OF_KINDS, OF_LINES, OF_QUERIES, OF_STEPS, explanation_of};
+use refusals::{
+    Explanation, OF_KINDS, OF_LINES, OF_QUERIES, OF_SCHEMAS, OF_STEPS, OF_TABLES, explanation_of,
+};
 use std::sync::Wait;
 use std::test::Fail;
 use std::thread::Threads;
@@ -103,7 +105,7 @@ fn holds(
 ) -> Result<bool, Fail> {
     let mut last = 0;
     for row in rows {
-        let has_none = matches!(row.code, 6 | 21 | 22 | 24..=30 | 37 | 38 | 39 | 47);
+        let has_none = matches!(row.code, 6 | 21 | 22 | 24..=30 | 37 | 38 | 39 | 47..=67);
         if row.code <= last || row.wrong.is_empty() != has_none {
             return Ok(false);
         }
@@ -123,7 +125,7 @@ fn holds(
 #[test]
 fn examples_of_the_table(rt: HostRuntime) -> Result<(), Fail> {
     for code in 0..=255 {
-        let is_known = matches!(code, 1..=6 | 11..=47);
+        let is_known = matches!(code, 1..=6 | 11..=47 | 51..=57 | 61..=67);
         assert_eq!(rt; explanation_of(code).is_some(), is_known);
     }
     assert!(rt; row_of_word("").is_none());
@@ -132,6 +134,8 @@ fn examples_of_the_table(rt: HostRuntime) -> Result<(), Fail> {
         OF_KINDS.as_slice(),
         OF_STEPS.as_slice(),
         OF_LINES.as_slice(),
+        OF_SCHEMAS.as_slice(),
+        OF_TABLES.as_slice(),
     ] {
         assert!(rt; holds(&rt, &rt, rows)?);
     }

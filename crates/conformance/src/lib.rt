@@ -13,8 +13,6 @@ mod growths;
 #[cfg(test)]
 mod limits;
 #[cfg(test)]
-mod replays;
-#[cfg(test)]
 mod sorting;
 #[cfg(test)]
 mod texts;

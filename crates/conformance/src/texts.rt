@@ -1,10 +1,9 @@
-//! Input texts read and output texts written, with readers and writers that fail.
+//! Readers and writers that fail, and more epochs than a text can have here.
 
 use collector::{
-    Alone, Epochs, Fault, InputRefusal, Line, OutFault, OutputEpochs, ReadFault, Stop, Watched,
-    next_line, read_all, read_at_most, read_input, write_epochs,
+    Alone, Fault, Line, OutFault, OutputEpochs, ReadFault, Stop, Watched, next_line, read_all,
+    read_at_most, write_epochs,
 };
-use record_core::{DeclaredInput, Name};
 use rows::{Batch, MAX_ARITY, Rows};
 use std::io;
 use std::io::{ErrorKind, Read, Write};
@@ -86,48 +85,6 @@ fn batches(rt: &HostRuntime, rows: &[&[i64]]) -> Result<Vec<Batch>, Fail> {
     Ok(batches)
 }
 
-/// Reads a text for the inputs `a/1` and `b/2`.
-fn read(rt: &HostRuntime, text: &[u8]) -> Result<Epochs, InputRefusal> {
-    let (Some(a), Some(b)) = (Name::new(b"a"), Name::new(b"b")) else {
-        return Err(InputRefusal::NoMemory);
-    };
-    let inputs = [
-        DeclaredInput { name: a, arity: 1 },
-        DeclaredInput { name: b, arity: 2 },
-    ];
-    read_input(rt.alloc(), text, inputs.as_slice())
-}
-
-#[test]
-fn refusals(rt: HostRuntime) {
-    let rows: [(&[u8], u8, u64); 20] = [
-        (b"a 1\n", 41, 1),
-        (b"\na 1\n", 46, 1),
-        (b"epoch\nc 1\n", 42, 2),
-        (b"epoch\nc 01\n", 42, 2),
-        (b"epoch\na 1", 43, 2),
-        (b"epoch", 43, 1),
-        (b"epoch\na 01\na 1", 44, 2),
-        (b"epoch\na 01\n", 44, 2),
-        (b"epoch\nepoch\na -0\n", 44, 3),
-        (b"epoch\na 1 +1\n", 44, 2),
-        (b"epoch\na 9223372036854775808\n", 44, 2),
-        (b"epoch\na 1 2\n", 45, 2),
-        (b"epoch\nb 1\n", 45, 2),
-        (b"epoch\na\n", 45, 2),
-        (b"epoch\na  1\n", 46, 2),
-        (b"epoch\na 1 \n", 46, 2),
-        (b"epoch \n", 46, 1),
-        (b"epoch\nA 1\n", 46, 2),
-        (b"epoch\r\n", 46, 1),
-        (b"epoch\na 1\n\n", 46, 3),
-    ];
-    for (text, code, line) in rows {
-        let want = InputRefusal::At { code, line };
-        assert_eq!(rt; read(&rt, text).err(), Some(want));
-    }
-}
-
 // No text here has so many lines: the line reader is told how many epochs have begun.
 #[test]
 fn too_many_epochs(rt: HostRuntime) {
@@ -139,57 +96,6 @@ fn too_many_epochs(rt: HostRuntime) {
         assert!(rt; matches!(beyond, Err(Stop::Fault(Fault::TooManyEpochs))));
     }
     assert_eq!(rt; Fault::TooManyEpochs.code(), 47);
-}
-
-#[test]
-fn reads(rt: HostRuntime) -> Result<(), Fail> {
-    let text = b"epoch\nepoch\na -3\nb 9223372036854775807 -9223372036854775808\na 0\na -3\n";
-    let epochs = read(&rt, text.as_slice())?;
-    assert_eq!(rt; epochs.count(), 2);
-    assert_eq!(rt; epochs.batches(0, 0).len(), 0);
-    let all = epochs.batches(0, 1);
-    assert_eq!(rt; all.len(), 1);
-    let all = &all[0];
-    assert_eq!(rt; (all.len(), all.weight()), (2, 3));
-    assert_eq!(rt; (all.row(0), all.count(0)), ([-3].as_slice(), 2));
-    assert_eq!(rt; (all.row(1), all.count(1)), ([0].as_slice(), 1));
-    let pairs = epochs.batches(1, 1);
-    assert_eq!(rt; pairs.len(), 1);
-    let pairs = &pairs[0];
-    assert_eq!(rt; pairs.len(), 1);
-    assert_eq!(rt; pairs.row(0), [i64::MAX, i64::MIN].as_slice());
-    assert_eq!(rt; epochs.batches(0, 2).len(), 0);
-    assert_eq!(rt; epochs.batches(2, 0).len(), 0);
-    let none = read(&rt, b"")?;
-    assert_eq!(rt; none.count(), 0);
-    Ok(())
-}
-
-#[test]
-fn writes(rt: HostRuntime) -> Result<(), Fail> {
-    let first = batches(&rt, [[10, -1].as_slice(), &[-5], &[10], &[-5]].as_slice())?;
-    let none = batches(&rt, [].as_slice())?;
-    let last = batches(&rt, [[i64::MIN].as_slice()].as_slice())?;
-    let mut epochs = Vec::new(rt.alloc());
-    for batches in [first.as_slice(), none.as_slice(), last.as_slice()] {
-        epochs.push(batches)?;
-    }
-    let outputs = [OutputEpochs {
-        name: b"out",
-        epochs,
-    }];
-    let mut out = Watched::new(Full {
-        room: 1000,
-        fails: true,
-        written: Vec::new(rt.alloc()),
-    });
-    assert_eq!(rt;
-        write_epochs(rt.alloc(), &Alone, outputs.as_slice(), 3, &mut out),
-        Ok(())
-    );
-    let text = b"epoch 0\n-5\n-5\n10\n10 -1\nepoch 1\nepoch 2\n-9223372036854775808\n";
-    assert_eq!(rt; out.into_inner().written.as_slice(), text.as_slice());
-    Ok(())
 }
 
 #[test]

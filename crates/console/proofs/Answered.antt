@@ -7,7 +7,8 @@ use Rattle.diagnostics.specs.Faults.{status_of}
 use Rattle.diagnostics.specs.declared.fault.Fault.{Fault}
 use Rattle.diagnostics.specs.declared.fault.Fault.TheVariants.{Query, TooManyVertices, Input, Schedule, NoMemory, Count, NoWorker, Incomplete, ReadQuery, ReadInput, Write}
 use Rattle.console.specs.Commands.{AsksRun, HasEnded, IsAnswered, status_after}
-use Rattle.console.specs.Asked.{Known, queries_of, query_word}
+use Rattle.commands.specs.Readings.{Known}
+use Rattle.console.specs.Asked.{queries_of, query_word}
 use Rattle.console.specs.Transcribed.{IsReadQuery, RunsOnTexts}
 use Rattle.console.specs.declared.transcripts.Transcripts.{Transcripts}
 

@@ -8,7 +8,8 @@ use Rattle.command_line.specs.declared.line_fault.LineFault.TheVariants as line
 use Rattle.command_line.specs.declared.line_options.Options.{Options}
 use Rattle.diagnostics.specs.declared.fault.Fault.{Fault}
 use Rattle.console.specs.Commands.{Answers, EndsOn, Obeys, status_after}
-use Rattle.console.specs.Asked.{Known, asks_inline, queries_of, where_queries}
+use Rattle.commands.specs.Readings.{Known}
+use Rattle.console.specs.Asked.{asks_inline, queries_of, where_queries}
 use Rattle.console.specs.Transcribed.{EndsOnRead}
 use Rattle.console.specs.declared.transcripts.Transcripts.{Transcripts}
 

@@ -1,12 +1,3 @@
-pub mod Answering
-pub mod RunEnds
-pub mod Reporting
-pub mod Noting
-pub mod FollowedText
-pub mod ReplayedText
-pub mod Heeding
-pub mod OneAnswer
 pub mod Commanding
-pub mod HandedOver
 pub mod OpenedTexts
 pub mod Answered

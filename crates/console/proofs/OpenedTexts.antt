@@ -8,12 +8,12 @@ use Rattle.collector.specs.declared.transcript.Transcript.{Transcript}
 use Rattle.collector.specs.declared.watched.Watched.{Watched}
 use Rattle.follow.specs.Follows.{HasRead}
 use Rattle.diagnostics.specs.declared.fault.Fault.{Fault}
-use Rattle.console.specs.Followed.{FollowEnds}
-use Rattle.console.specs.Readings.{EndsOnBothHanded, EndsOnHanded, FollowsOnHanded, HandsQuery, read_part}
-use Rattle.console.specs.Asked.{Known}
+use Rattle.commands.specs.Followed.{FollowEnds}
+use Rattle.commands.specs.Readings.{EndsOnBothHanded, EndsOnHanded, FollowsOnHanded, HandsQuery, read_part}
+use Rattle.commands.specs.Readings.{Known}
 use Rattle.console.specs.Transcribed.{EndsOnText, EndsOnTexts, FollowsOnTexts, IsClosed, IsEnough, IsReadFrom, IsReadQuery}
 use Rattle.console.specs.declared.transcripts.Transcripts.{Transcripts}
-use Rattle.console.proofs.FollowedText.{ends_wider}
+use Rattle.commands.proofs.FollowedText.{ends_wider}
 
 -- a text that was opened under the name, then read, and then closed
 module _ {T : Type 0} (o : Opened T) (new : Watched T) (kept : Option Transcript) (none : handed o.text ≡ []) (c : IsClosed kept (record o { text = new })) where

@@ -6,6 +6,7 @@ use Rattle.command_line.specs.declared.query.Query.{Query}
 use Rattle.command_line.specs.declared.query.Query.TheVariants.{File, Inline}
 use Rattle.command_line.specs.declared.script_form.ScriptForm.{ScriptForm}
 use Rattle.command_line.specs.declared.script_form.ScriptForm.TheVariants as script
+use Rattle.commands.specs.Readings.{Known}
 use Rattle.sql.specs.Asked.{Asked}
 use Rattle.sql.specs.declared.form.Arithmetic.{Arithmetic}
 use Rattle.sql.specs.declared.form.Arithmetic.TheVariants.{Plain, Wrapped}
@@ -15,10 +16,6 @@ use Rattle.sql.specs.declared.form.Form.{Form}
 use Rattle.sql.specs.declared.form.Form.TheVariants as form
 use Rattle.sql.specs.declared.form.Layout.{Layout}
 use Rattle.sql.specs.declared.form.Layout.TheVariants as layout
-
--- the bytes of the text of each name, where they are known
-abbrev pub Known : Type 0
-Known = List ℕ → Option (List ℕ)
 
 -- what is known of inputs: nothing where they have to end with the mark
 abbrev pub known_inputs : (end_mark : Bool) → Known → Known

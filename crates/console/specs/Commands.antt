@@ -15,11 +15,12 @@ use Rattle.diagnostics.specs.Explanations.{ExplanationEnds}
 use Rattle.diagnostics.specs.Faults.{status_of}
 use Rattle.diagnostics.specs.declared.fault.Fault.{Fault}
 use Rattle.sql.specs.Asked.{Asked}
-use Rattle.console.specs.Asked.{Known, script_asked, known_inputs, queries_of, query_word}
-use Rattle.console.specs.Heeded.{Heeds}
-use Rattle.console.specs.Readings.{ChecksBothOver, ChecksOver, FollowsOver, FormatsOver, GraphsOver, ScriptsOver, read_part}
-use Rattle.console.specs.Replayed.{ReplayEnds}
-use Rattle.console.specs.Runs.{Ends, IsRun}
+use Rattle.commands.specs.Readings.{Known}
+use Rattle.console.specs.Asked.{script_asked, known_inputs, queries_of, query_word}
+use Rattle.commands.specs.Heeded.{Heeds}
+use Rattle.commands.specs.Readings.{ChecksBothOver, ChecksOver, FollowsOver, FormatsOver, GraphsOver, ScriptsOver, read_part}
+use Rattle.commands.specs.Replayed.{ReplayEnds}
+use Rattle.commands.specs.Runs.{Ends, IsRun}
 use Rattle.console.specs.Transcribed.{EndsOnRead, IsOf, IsReadQuery}
 use Rattle.console.specs.Views.{kind_asked}
 use Rattle.console.specs.declared.transcripts.Transcripts.{Transcripts}

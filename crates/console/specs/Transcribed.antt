@@ -14,18 +14,19 @@ use Rattle.collector.specs.declared.transcript.Transcript.{Transcript}
 use Rattle.follow.specs.Follows.{Reading}
 use Rattle.diagnostics.specs.declared.fault.Fault.{Fault}
 use Rattle.diagnostics.specs.declared.fault.Fault.TheVariants.{NoWorker}
-use Rattle.console.specs.Asked.{Known, script_asked, query_word}
-use Rattle.console.specs.Checks.{CheckEnds}
-use Rattle.console.specs.Followed.{FollowEnds}
-use Rattle.console.specs.Formats.{FormatEnds}
-use Rattle.console.specs.Scripts.{ScriptEnds}
+use Rattle.commands.specs.Readings.{Known}
+use Rattle.console.specs.Asked.{script_asked, query_word}
+use Rattle.commands.specs.Checks.{CheckEnds}
+use Rattle.commands.specs.Followed.{FollowEnds}
+use Rattle.commands.specs.Formats.{FormatEnds}
+use Rattle.commands.specs.Scripts.{ScriptEnds}
 use Rattle.sql.specs.Asked.{Asked}
-use Rattle.console.specs.Graphs.{GraphEnds}
-use Rattle.console.specs.Heeded.{Heeds}
-use Rattle.console.specs.InputChecks.{CheckInputEnds}
-use Rattle.console.specs.Readings.{IsOfQuery, IsOfReading, read_part}
-use Rattle.console.specs.Replayed.{ReplayEnds}
-use Rattle.console.specs.Runs.{Ends}
+use Rattle.commands.specs.Graphs.{GraphEnds}
+use Rattle.commands.specs.Heeded.{Heeds}
+use Rattle.commands.specs.InputChecks.{CheckInputEnds}
+use Rattle.commands.specs.Readings.{IsOfQuery, IsOfReading, read_part}
+use Rattle.commands.specs.Replayed.{ReplayEnds}
+use Rattle.commands.specs.Runs.{Ends}
 use Rattle.console.specs.Views.{kind_asked}
 use Rattle.console.specs.declared.transcripts.Transcripts.{Transcripts}
 

@@ -9,23 +9,22 @@ ghost use Rattle.console.specs.Commands.{Answers, EndsOn, Obeys, status_after};
 ghost use Rattle.console.specs.Transcribed.{EndsOnRead};
 ghost use Rattle.console.specs.Views.{kind_asked};
 
-use crate::commands::{
+use crate::named_texts::{
     Kept, Place, Task, check_named, follow_named, format_named, graph_named, replay_named,
     run_named, script_named,
 };
 use crate::on_line::OnLine;
-use crate::streams::Streams;
 use crate::transcripts::Transcripts;
 use bumpalo::Bump;
 use collector::{Sources, Watched};
 use command_line::{LineFault, Options, Query, ScriptForm, options};
+use commands::{Fault, Streams, Texts, ViewKind};
 use compile::{Arithmetic, Epochs, Form, Layout, Request, input_places, warnings_of};
 use diagnostics::{
-    Fault, Plain, TextNames, Texts, Word, explain_fault, row_of_word, write_early,
-    write_explanation, write_path_hint, write_told, write_warnings,
+    Plain, TextNames, Word, explain_fault, row_of_word, write_early, write_explanation,
+    write_path_hint, write_told, write_warnings,
 };
 use refusals::NUMBERS;
-use schedule::ViewKind;
 use std::alloc::Global;
 use std::io;
 use std::io::Write;
@@ -204,7 +203,7 @@ fn write_fault<E: Write>(
     }
     if explain {
         let _ = explain_fault(alloc, fault, names, texts, &mut text);
-        let _ = write_path_hint(fault, query, &mut text);
+        let _ = write_path_hint(fault, names, &mut text);
     }
     err.write_all(text.as_slice())
 }

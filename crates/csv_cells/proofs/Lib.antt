@@ -1,7 +1,3 @@
 mod ReadByGrammar
 pub mod Rows
-mod LastDigits
-mod Joined
-mod Places
 pub mod OneNumber
-mod Spelled

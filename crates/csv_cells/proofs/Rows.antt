@@ -1,17 +1,16 @@
 -- Fields of a list that grows.
 use Rattle.std.proofs.Common.{◌≡◌, ◌<◌, ◌+◌, ℕ, ℤ, pos, negsuc, zero, suc, List, [], ◌∷◌, ◌++◌, length, Option, Some, None, refl, sym, ◌∙◌, ap, subst, arith, slice_get, get_or, inl, inr, IfSome, FitsSigned, w64}
 use Rattle.std.proofs.lemmas.Bool.{cases_lt}
-use Rattle.std.proofs.lemmas.Option.{slice_get_within}
 use Rattle.std.proofs.lemmas.List.{get_or_append_left, ext_get_or}
 use Rattle.std.proofs.Math.Seq.{get_or-append_seam}
 use Rattle.std.proofs.lemmas.List.{append-nil, append_assoc}
 use Rattle.csv.specs.Records.{field_at}
 use Rattle.csv.specs.Reading.{Reached, default_config}
-use Rattle.csv_cells.specs.Texts.{Grows, IsAdded}
-use Rattle.csv_cells.specs.Numbers.{IsDateText, date_text}
+use Rattle.text_dictionary.specs.Texts.{Grows, IsAdded}
 use Rattle.csv_cells.specs.Cells.{Spells, Stands, StandsAs, StandsWith, plain}
 use Rattle.csv_cells.specs.Encoded.{SpellsAll, lines_text, line_text, numbers_text}
-use Rattle.jiff_core.proofs.DateLemmas.{epoch_day_injective}
+use Rattle.scalar_texts.proofs.OneText.{date-once}
+use Rattle.text_dictionary.proofs.Places.{get-kept}
 use Rattle.std.specs.Fmt.{signed_decimal}
 use Rattle.csv_cells.specs.declared.column.Column.{Column}
 use Rattle.csv_cells.specs.declared.column.Empty.{Empty}
@@ -24,19 +23,6 @@ unfolding field_at
 field-same [] j = refl
 field-same (f ∷ fs) zero = refl
 field-same (f ∷ fs) (suc j) = field-same fs j
-
-pub get-left : {X : Type 0} (fs gs : List X) (j : ℕ) → j < length fs → slice_get (fs ++ gs) j ≡ slice_get fs j
-get-left [] gs j h = absurd (omega arith)
-get-left (f ∷ fs) gs zero h = refl
-get-left (f ∷ fs) gs (suc j) h = get-left fs gs j (omega arith)
-
-pub get-last : {X : Type 0} (fs : List X) (f : X) → slice_get (fs ++ f ∷ []) (length fs) ≡ Some f
-get-last [] f = refl
-get-last (g ∷ fs) f = get-last fs f
-
--- a place that has a text keeps it
-pub get-kept : {X : Type 0} (fs gs : List X) (j : ℕ) (f : X) → slice_get fs j ≡ Some f → slice_get (fs ++ gs) j ≡ Some f
-get-kept fs gs j f h = get-left fs gs j (slice_get_within fs j f h) ∙ h
 
 -- a number that stands for a text does so under any later dictionary
 pub kind-kept : (k : Kind) (old more : List (List ℕ)) (z : ℤ) (f : List ℕ) → Stands k old z f → Stands k (old ++ more) z f
@@ -58,13 +44,6 @@ cell-kept c old more z f h = with-kept c.empty c.kind old more z f h
 
 pub some-once : (f g : List ℕ) → Some f ≡ Some g → f ≡ g
 some-once f g e = cc e
-
--- a day number is of one date, which has one text
-pub date-once : (z : ℤ) (f g : List ℕ) → IsDateText z f → IsDateText z g → f ≡ g
-date-once z f g a b =
-    let same = epoch_day_injective a.date b.date (a.numbered ∙ sym b.numbered) in
-    let written : date_text b.date.year b.date.month b.date.day ≡ Some f = rw (same.0, same.1, same.2) at a.written in
-    some-once f g (sym written ∙ b.written)
 
 -- in a column a number stands for one text
 kind-once : (k : Kind) (texts : List (List ℕ)) (z : ℤ) (f g : List ℕ) → Stands k texts z f → Stands k texts z g → f ≡ g
@@ -177,9 +156,9 @@ lines-push name [] zs = append-nil (line_text name zs)
 lines-push name (n ∷ numbers) zs = ap (λ t. line_text name n ++ t) (lines-push name numbers zs) ∙ sym (append_assoc (line_text name n) (lines_text name numbers) (line_text name zs))
 
 -- one more number of a line
-pub line-step : (rest : List ℤ) (z : ℤ) (text : List ℕ) → text ++ numbers_text (z ∷ rest) ≡ ((text ++ 32 ∷ []) ++ signed_decimal z) ++ numbers_text rest
+pub line-step : (rest : List ℤ) (z : ℤ) (text : List ℕ) → text ++ numbers_text (z ∷ rest) ≡ (text ++ 32 ∷ signed_decimal z) ++ numbers_text rest
 unfolding numbers_text
-line-step rest z text = sym (append_assoc text (32 ∷ []) (signed_decimal z ++ numbers_text rest)) ∙ sym (append_assoc (text ++ 32 ∷ []) (signed_decimal z) (numbers_text rest))
+line-step rest z text = sym (append_assoc text (32 ∷ signed_decimal z) (numbers_text rest))
 
 pub line-end : (text : List ℕ) → text ++ numbers_text [] ≡ text ++ 10 ∷ []
 unfolding numbers_text

@@ -2,8 +2,8 @@
 use Rattle.std.specs.Prelude.{◌≡◌, ◌≢◌, ◌<◌, ◌⊎◌, ℕ, ℤ, pos, Bool, true, false, List, [], ◌++◌, length, get_or, Option, Some, None, FitsSigned, ⊤}
 use Rattle.std.specs.Int.{w64}
 use Rattle.std.specs.Fmt.{signed_decimal}
-use Rattle.csv_cells.specs.Texts.{text_at}
-use Rattle.csv_cells.specs.Numbers.{IsDateText, decimal_text, time_text}
+use Rattle.text_dictionary.specs.Texts.{text_at}
+use Rattle.scalar_texts.specs.Numbers.{IsDateText, decimal_text, time_text}
 use Rattle.csv_cells.specs.declared.column.Kind.{Kind}
 use Rattle.csv_cells.specs.declared.column.Kind.TheVariants.{Int, Decimal, Date, Time, Text}
 use Rattle.csv_cells.specs.declared.column.Empty.{Empty}

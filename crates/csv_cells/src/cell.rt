@@ -3,14 +3,14 @@
 ghost use Rattle.std.specs.Prelude.{◌≡◌, ℤ, FitsSigned, IfNone, IfOk, IfSome, OnOk, Some};
 ghost use Rattle.std.specs.Int.{w64};
 ghost use Rattle.csv_cells.specs.Cells.{IsNoCell, IsNumbered, IsOnly, Stands, WritesCell, WritesKind, StandsAs};
-ghost use Rattle.csv_cells.specs.Texts.{Grows, texts_of};
+ghost use Rattle.text_dictionary.specs.Texts.{Grows, texts_of};
+ghost use Rattle.csv_cells.specs.declared.column.Empty.TheVariants.{Refused};
 
 use crate::column::{Column, Empty, Kind};
-use crate::dictionary::Dictionary;
-use crate::digits::{push_date, push_decimal, push_time};
-use crate::numbers::{day_of, int_of, parts_of, seconds_of};
 use itoa::Buffer;
+use scalar_texts::{day_of, int_of, parts_of, push_date, push_decimal, push_time, seconds_of};
 use std::alloc::{AllocError, Global};
+use text_dictionary::Dictionary;
 
 /// The number that stands for a text in a column of that kind.
 fn read_kind(
@@ -67,6 +67,20 @@ fn write_kind(
     }
 }
 
+/// The same, in a column with no empty cell.
+fn write_some(
+    kind: Kind,
+    dictionary: &Dictionary,
+    z: i64,
+    out: &mut Vec<u8>,
+) -> Result<bool, AllocError>
+    ensures { IfOk result (WritesCell (record { kind = kind; empty = Refused }) (texts_of dictionary.now) z out.old.items out.new.items) }
+{
+    let before = out.len();
+    let wrote = write_kind(kind, dictionary, z, out)?;
+    Ok(wrote && before < out.len())
+}
+
 /// The number that stands for a cell, `None` if the column has none for it. A new text goes to the end of the dictionary.
 pub fn read_cell(
     alloc: Global,
@@ -105,10 +119,6 @@ pub fn write_cell(
     match column.empty {
         Empty::Number(number) if z == number => Ok(true),
         Empty::Kept => write_kind(column.kind, dictionary, z, out),
-        Empty::Number(_) | Empty::Refused => {
-            let before = out.len();
-            let wrote = write_kind(column.kind, dictionary, z, out)?;
-            Ok(wrote && before < out.len())
-        }
+        Empty::Number(_) | Empty::Refused => write_some(column.kind, dictionary, z, out),
     }
 }

@@ -1,15 +1,28 @@
 //! A CSV text as lines of an input text.
 
-ghost use Rattle.std.specs.Prelude.{◌≡◌, ◌++◌, IfOk, OnOk};
+ghost use Rattle.std.specs.Prelude.{◌≡◌, ◌∷◌, ◌++◌, IfOk, OnOk};
+ghost use Rattle.std.specs.Fmt.{signed_decimal};
+ghost use Rattle.csv.specs.Records.{fields_of};
+ghost use Rattle.csv_cells.specs.Cells.{Spells};
 ghost use Rattle.csv_cells.specs.Encoded.{EncodedAs, line_text};
-ghost use Rattle.csv_cells.specs.Texts.{Grows, texts_of};
+ghost use Rattle.text_dictionary.specs.Texts.{Grows, texts_of};
 
 use crate::column::Column;
-use crate::dictionary::Dictionary;
 use crate::row::{RowFault, read_row};
-use csv::{Error, ReaderBuilder};
+use csv::{ByteRecord, Error, ReaderBuilder};
 use itoa::Buffer;
 use std::alloc::{AllocError, Global};
+use text_dictionary::Dictionary;
+
+/// Appends a number after one space.
+fn push_number(out: &mut Vec<u8>, number: i64) -> Result<(), AllocError>
+    ensures { OnOk result (out.new.items ≡ out.old.items ++ 32 ∷ signed_decimal number) }
+{
+    let mut buffer = Buffer::new();
+    out.push(b' ')?;
+    out.extend_from_slice(buffer.format(number).as_bytes())?;
+    Ok(())
+}
 
 /// Appends the line of a record: the input's name, and the numbers, each after one space.
 pub fn append_line(out: &mut Vec<u8>, name: &[u8], numbers: &[i64]) -> Result<(), AllocError>
@@ -17,10 +30,7 @@ pub fn append_line(out: &mut Vec<u8>, name: &[u8], numbers: &[i64]) -> Result<()
 {
     out.extend_from_slice(name)?;
     for i in 0..numbers.len() {
-        let number = numbers[i];
-        let mut buffer = Buffer::new();
-        out.push(b' ')?;
-        out.extend_from_slice(buffer.format(number).as_bytes())?;
+        push_number(out, numbers[i])?;
     }
     out.push(b'\n')?;
     Ok(())
@@ -37,6 +47,31 @@ pub enum TextFault {
     Row(u64, RowFault),
     #[error("out of memory")]
     NoMemory,
+}
+
+/// Appends the line of a record, whose numbers come in place of those in `numbers`. So many records come before it.
+fn push_record(
+    alloc: Global,
+    columns: &[Column],
+    name: &[u8],
+    dictionary: &mut Dictionary,
+    row: &ByteRecord,
+    count: u64,
+    numbers: &mut Vec<i64>,
+    out: &mut Vec<u8>,
+) -> Result<(), TextFault>
+    ensures spelled { OnOk result (Spells columns.now (texts_of dictionary.new) (fields_of row.now) numbers.new.items) }
+    ensures written { OnOk result (out.new.items ≡ out.old.items ++ line_text name.now numbers.new.items) }
+    ensures grows { OnOk result (Grows (texts_of dictionary.old) (texts_of dictionary.new)) }
+{
+    match read_row(alloc, columns, dictionary, row, numbers) {
+        Ok(()) => {}
+        Err(fault) => return Err(TextFault::Row(count, fault)),
+    }
+    match append_line(out, name, numbers.as_slice()) {
+        Ok(()) => Ok(()),
+        Err(_) => Err(TextFault::NoMemory),
+    }
 }
 
 /// The lines of the records of a CSV text with no header row.
@@ -61,12 +96,18 @@ pub fn encode_text(
             Ok(row) => row,
             Err(error) => return Err(TextFault::Csv(error)),
         };
-        match read_row(alloc, columns, dictionary, &row, &mut numbers) {
+        match push_record(
+            alloc,
+            columns,
+            name,
+            dictionary,
+            &row,
+            count,
+            &mut numbers,
+            &mut out,
+        ) {
             Ok(()) => {}
-            Err(fault) => return Err(TextFault::Row(count, fault)),
-        }
-        if append_line(&mut out, name, numbers.as_slice()).is_err() {
-            return Err(TextFault::NoMemory);
+            Err(fault) => return Err(fault),
         }
         count = count.saturating_add(1);
     }

@@ -10,10 +10,10 @@ ghost use Rattle.csv_cells.specs.Rfc4180.{IsRowsText};
 ghost use Rattle.csv_cells.specs.declared.column.Kind.TheVariants as kind;
 
 use crate::column::Column;
-use crate::dictionary::Dictionary;
 use crate::row::{RowFault, read_row, write_row};
 use csv::ByteRecord;
 use std::alloc::Global;
+use text_dictionary::Dictionary;
 
 /// A record, read and written again, is the same.
 pub fn through_numbers(

@@ -3,14 +3,14 @@
 ghost use Rattle.csv_cells.specs.declared.row.RowFault.TheVariants as fault;
 ghost use Rattle.std.specs.Prelude.{◌≡◌, ◌⊎◌, ℕ, List, IfErr, IfNone, IfOk, IfSome, OnOk, map};
 ghost use Rattle.csv.specs.Records.{fields_of};
-ghost use Rattle.csv_cells.specs.Cells.{IsRefusedRow, Spells};
-ghost use Rattle.csv_cells.specs.Texts.{Grows, texts_of};
+ghost use Rattle.csv_cells.specs.Cells.{IsNoCell, IsRefusedRow, Spells, StandsAs};
+ghost use Rattle.text_dictionary.specs.Texts.{Grows, texts_of};
 
 use crate::cell::{read_cell, write_cell};
 use crate::column::Column;
-use crate::dictionary::Dictionary;
 use csv::ByteRecord;
 use std::alloc::{AllocError, AllocFailed, Global};
+use text_dictionary::Dictionary;
 
 /// Why a record has no numbers.
 #[derive(Clone, Copy, Debug, thiserror::Error)]
@@ -40,6 +40,26 @@ impl From<AllocError> for RowFault {
     }
 }
 
+/// The number of the cell in that column, from 0. A new text goes to the end of the dictionary.
+fn number_of(
+    alloc: Global,
+    column: Column,
+    dictionary: &mut Dictionary,
+    cell: &[u8],
+    place: usize,
+) -> Result<i64, RowFault>
+    ensures found { IfOk result (λ z. StandsAs column (texts_of dictionary.new) z cell.now) }
+    ensures refused { IfErr result (λ why. (why ≡ fault.NoMemory)
+        ⊎ ((why ≡ fault.Cell place) × IsNoCell column (texts_of dictionary.new) cell.now
+        × Grows (texts_of dictionary.old) (texts_of dictionary.new))) }
+    ensures grows { OnOk result (Grows (texts_of dictionary.old) (texts_of dictionary.new)) }
+{
+    match read_cell(alloc, column, dictionary, cell)? {
+        Some(z) => Ok(z),
+        None => Err(RowFault::Cell(place)),
+    }
+}
+
 /// Puts the numbers of a record in place of those in `numbers`. New texts go to the end of the dictionary.
 pub fn read_row(
     alloc: Global,
@@ -62,12 +82,31 @@ pub fn read_row(
         let Some(cell) = row.get(i) else {
             return Err(RowFault::Length);
         };
-        let Some(z) = read_cell(alloc, column, dictionary, cell)? else {
-            return Err(RowFault::Cell(i));
+        let z = match number_of(alloc, column, dictionary, cell, i) {
+            Ok(z) => z,
+            Err(why) => return Err(why),
         };
         numbers.push(z)?;
     }
     Ok(())
+}
+
+/// The cell that a number stands for, if there is one.
+fn cell_of(
+    alloc: Global,
+    column: Column,
+    dictionary: &Dictionary,
+    number: i64,
+) -> Result<Option<Vec<u8>>, AllocError>
+    ensures written { IfOk result (λ o. IfSome o (λ v. StandsAs column (texts_of dictionary.now) number v.items)) }
+    ensures none { IfOk result (λ o. IfNone o ((cell : List ℕ) → ¬ StandsAs column (texts_of dictionary.now) number cell)) }
+{
+    let mut cell = Vec::new(alloc);
+    if write_cell(column, dictionary, number, &mut cell)? {
+        Ok(Some(cell))
+    } else {
+        Ok(None)
+    }
 }
 
 /// The cells that numbers stand for, if there is one for each.
@@ -87,10 +126,9 @@ pub fn write_row(
     for i in 0..columns.len() {
         let column = columns[i];
         let number = numbers[i];
-        let mut cell = Vec::new(alloc);
-        if !write_cell(column, dictionary, number, &mut cell)? {
+        let Some(cell) = cell_of(alloc, column, dictionary, number)? else {
             return Ok(None);
-        }
+        };
         cells.push(cell)?;
     }
     Ok(Some(cells))

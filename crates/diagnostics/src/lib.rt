@@ -1,7 +1,7 @@
 //! Faults, and how they are reported: a line, the place in the text, what is wrong there, and what a refusal's number means.
 //!
 //! A `Fault` has a code, with the bytes or the line where it was found. `explain_fault` shows that place in the texts that were read, and
-//! says what is wrong there with the names and the numbers involved; `write_path_hint` helps where a query's text stands for its path;
+//! says what is wrong there with the names and the numbers involved; `write_path_hint` helps where something else stands for a path;
 //! `write_warnings` and `write_early` tell what is accepted, and most likely a mistake;
 //! `row_of_word` finds the table's row of a number, and `write_explanation` writes it. The contract for the layer above: a fault's status,
 //! and that the text of a row is written whole, or a beginning of it where the writer failed, or nothing. This crate uses the parser and

@@ -57,12 +57,20 @@ fn sentence(kind: ErrorKind) -> &'static str {
     }
 }
 
-/// Writes how a query is given without a file, if a query couldn't be read and its path looks like a query.
-pub fn write_path_hint<W: Write>(fault: &Fault, query: &str, writer: &mut W) -> io::Result<()> {
+/// Writes what helps where a text couldn't be read and its path looks like something else: a query, or an input's name and its CSV file.
+pub fn write_path_hint<W: Write>(
+    fault: &Fault,
+    names: TextNames<'_>,
+    writer: &mut W,
+) -> io::Result<()> {
     match fault {
-        Fault::ReadQuery if query.as_bytes().contains(&b';') => writeln!(
+        Fault::ReadQuery if names.query.as_bytes().contains(&b';') => writeln!(
             writer,
-            "QUERY is a path; - reads a query's text, as in printf 'input a/1; output a;' | ./loom run - INPUT"
+            "QUERY is a path; with -e it is the query itself: ./loom run -e 'input a/1; output a;' INPUT"
+        ),
+        Fault::ReadInput if names.input.as_bytes().contains(&b'=') => writeln!(
+            writer,
+            "INPUT is a path; CSV files are read by a schema: ./loom run --schema SCHEMA QUERY NAME=FILE"
         ),
         _ => Ok(()),
     }

@@ -11,15 +11,15 @@ _loom() {
     elif [ "$before" = --heap ]; then
         words="64 4096 65536 1048576 16777216"
     elif [ "${COMP_WORDS[1]}" = explain ]; then
-        words="$(seq 1 6) $(seq 11 47) --help"
+        words="$(seq 1 6) $(seq 11 47) $(seq 51 57) $(seq 61 67) --help"
     elif [ "${COMP_WORDS[1]}" = help ]; then
         words=$commands
     elif [[ $word == -* ]]; then
         case ${COMP_WORDS[1]} in
         run) words="--workers --watch --stats --dot --end-mark --schema --dictionary --output --explain --inline --help" ;;
-        follow) words="--workers --first-epoch --end-mark --explain --inline --help" ;;
+        follow) words="--workers --first-epoch --end-mark --schema --dictionary --output --explain --inline --help" ;;
         replay) words="--workers --views --explain --inline --help" ;;
-        check) words="--heap --explain --inline --help" ;;
+        check) words="--heap --schema --explain --inline --help" ;;
         graph) words="--dot --heap --explain --inline --help" ;;
         format) words="--explain --inline --help" ;;
         sql) words="--with --wrapped --epochs --dialect --output --explain --inline --help" ;;

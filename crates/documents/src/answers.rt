@@ -8,7 +8,7 @@ use std::sync::Wait;
 use std::thread::Threads;
 use table_commands::{Drafts, answer_tables, is_of_tables};
 use table_follows::{answer_table_follow, is_table_follow};
-use table_runs::{answer_table_run, is_table_run};
+use table_runs::{answer_table_check, answer_table_run, is_table_check, is_table_run};
 
 /// How often a run is repeated with each other number of workers.
 const TIMES: usize = 20;
@@ -73,7 +73,7 @@ struct Printed {
     err: Vec<u8>,
 }
 
-/// What the program prints that is called with these words of `encode`, `decode` or `kinds`.
+/// What the program prints that is called with these words of `encode`, `decode`, `kinds` or `check --schema`.
 fn tables_print<'a>(
     rt: &'a HostRuntime,
     piped: Option<&'a [u8]>,
@@ -85,7 +85,11 @@ fn tables_print<'a>(
     };
     let mut out = Watched::new(Vec::new(rt.alloc()));
     let mut err = Vec::new(rt.alloc());
-    let status = answer_tables(rt.alloc(), &page, &page, words, &mut out, &mut err);
+    let status = if is_table_check(words) {
+        answer_table_check(rt.alloc(), &page, words, &mut out, &mut err)
+    } else {
+        answer_tables(rt.alloc(), &page, &page, words, &mut out, &mut err)
+    };
     Ok(Printed {
         status,
         out: out.into_inner(),
@@ -126,7 +130,7 @@ fn prints(
     piped: Option<&[u8]>,
     words: &[&str],
 ) -> io::Result<Printed> {
-    if is_of_tables(words) {
+    if is_of_tables(words) || is_table_check(words) {
         return tables_print(rt, piped, words);
     }
     if is_table_run(words) || is_table_follow(words) {

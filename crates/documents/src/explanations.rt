@@ -4,7 +4,7 @@ use refusals::Explanation;
 use std::alloc::{AllocError, Global};
 
 /// A row of the table.
-#[derive(Clone, Copy, Debug)]
+#[derive(Clone, Copy)]
 pub struct Row<'a> {
     /// The number of its line, from 1.
     pub line: usize,

@@ -119,47 +119,57 @@ fn lists(rt: &HostRuntime, threads: &(impl Threads + Wait + Sync), path: &str) -
     let page = fs::read_to_string(rt, path)?;
     let own = help_of(rt, threads, &["loom", "--help"])?;
     let helps = helps_of(rt, threads, own.as_str())?;
-    let of_tables = help_of(rt, threads, &["loom", "run", "--schema", "-", "--help"])?;
-    is_listed(
-        rt,
-        path,
-        page.as_str(),
-        own.as_str(),
-        helps.as_slice(),
-        of_tables.as_str(),
-    )
+    is_listed(rt, path, page.as_str(), own.as_str(), helps.as_slice())
 }
 
-/// The help of each command.
+/// The help of a command, and the one with `--schema`, which is empty if the command doesn't take that.
+#[derive(Drop)]
+struct Helps {
+    own: String,
+    with_schema: String,
+}
+
+/// The helps of a command.
+fn helps_for(
+    rt: &HostRuntime,
+    threads: &(impl Threads + Wait + Sync),
+    command: &str,
+) -> io::Result<Helps> {
+    let own = help_of(rt, threads, &["loom", "help", command])?;
+    let with_schema = if matches!(command, "run" | "follow" | "check") {
+        help_of(rt, threads, &["loom", command, "--schema", "-", "--help"])?
+    } else {
+        String::new(rt.alloc())
+    };
+    Ok(Helps { own, with_schema })
+}
+
+/// The helps of each command.
 fn helps_of(
     rt: &HostRuntime,
     threads: &(impl Threads + Wait + Sync),
     own: &str,
-) -> io::Result<Vec<String>> {
+) -> io::Result<Vec<Helps>> {
     let mut helps = Vec::new(rt.alloc());
     for command in commands_of(rt.alloc(), own)? {
-        let help = help_of(rt, threads, &["loom", "help", command])?;
-        helps.push(help)?;
+        helps.push(helps_for(rt, threads, command)?)?;
     }
     Ok(helps)
 }
 
-/// Whether a page lists the commands and options of these helps: the program's own, those of its commands, and that of `run --schema`.
+/// Whether a page lists the commands and options of these helps: the program's own, and those of its commands.
 fn is_listed(
     rt: &HostRuntime,
     path: &str,
     page: &str,
     own: &str,
-    helps: &[String],
-    of_tables: &str,
+    helps: &[Helps],
 ) -> io::Result<bool> {
     let alloc = rt.alloc();
     let mut help = Vec::new(alloc);
-    for (command, text) in commands_of(alloc, own)?.into_iter().zip(helps) {
-        let mut options = options_of(alloc, text.as_str())?;
-        if command == "run" {
-            add_options(&mut options, options_of(alloc, of_tables)?)?;
-        }
+    for (command, texts) in commands_of(alloc, own)?.into_iter().zip(helps) {
+        let mut options = options_of(alloc, texts.own.as_str())?;
+        add_options(&mut options, options_of(alloc, texts.with_schema.as_str())?)?;
         help.push(Listed { command, options })?;
     }
     let (wanted, found) = if path.ends_with(".bash") {

@@ -3,7 +3,7 @@
 use std::alloc::{AllocError, Global};
 
 /// A command of a session.
-#[derive(Debug, Drop)]
+#[derive(Drop)]
 pub struct Session<'a> {
     /// The number of its line, from 1.
     pub line: usize,

@@ -1,6 +1,6 @@
 -- A claim and the end of an event leave the graph as it is.
 use Rattle.std.proofs.Common.{◌≡◌, ℕ, ap, Result, Ok, Err}
-use Rattle.events.specs.Jobs.{Pass}
+use Rattle.board.specs.Jobs.{Pass}
 use Rattle.board.specs.Answers.{Claims}
 use Rattle.board.specs.Shown.{Shown}
 use Rattle.board.specs.declared.board.Claimed.{Claimed}

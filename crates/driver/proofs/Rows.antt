@@ -1,10 +1,10 @@
 -- Rows of counters.
-use Rattle.std.proofs.Common.{◌≡◌, ◌≢◌, ◌+◌, ◌<◌, ◌≤◌, ◌==◌, ◌∙◌, IsSome, ℕ, zero, suc, Bool, true, false, cond, ◌⊎◌, inl, inr, List, [], ◌∷◌, ◌++◌, length, refl, sym, ap, subst, arith, Option, Some, None, length-set}
+use Rattle.std.proofs.Common.{◌≡◌, ◌≢◌, ◌+◌, ◌<◌, ◌≤◌, ◌==◌, ◌∙◌, IsSome, ℕ, zero, suc, true, false, cond, ◌⊎◌, inl, inr, List, [], ◌∷◌, ◌++◌, length, refl, sym, ap, subst, arith, Some, None, length-set}
 use Rattle.std.specs.Prelude.{option_map, slice_get, slice_index_or, slice_set}
 use Rattle.std.proofs.lemmas.Bool.Decides.{eqb_tells}
 use Rattle.std.proofs.lemmas.List.{get_or-set_other, get_or-set_same, get_or_default, get_or_past}
 use Rattle.std.proofs.lemmas.Option.{slice_get_cases, slice_get_past}
-use Rattle.views.proofs.PostedBatches.{get_set_else, get_set_here}
+use Rattle.board.proofs.PostedBatches.{get_set_else, get_set_here}
 use Rattle.board.specs.declared.sent.Sent.{Sent}
 use Rattle.driver.specs.declared.tally.Counts.{Counts}
 use Rattle.driver.specs.Tallies.{AreZero, Covers, CoversAll, IsZero, Raises, RaisesIn, Rows, at, raised}

@@ -1,6 +1,6 @@
 -- What is known of an event that was computed, and settled then.
 use Rattle.std.proofs.Common.{◌≡◌, ◌∙◌, sym, Option, Ok, Err, IfErr, IfOk}
-use Rattle.events.specs.Jobs.{Pass}
+use Rattle.board.specs.Jobs.{Pass}
 use Rattle.rows.specs.declared.fault.WorkFault.{WorkFault}
 use Rattle.rows.specs.declared.fault.WorkFault.TheVariants.{Count, NoMemory}
 use Rattle.driver.specs.Ends.{Computed, IsFaultOf, event_of}

@@ -4,7 +4,7 @@ use Rattle.std.specs.Prelude.{option_map, slice_get}
 use Rattle.std.proofs.Math.Seq.{take-suc}
 use Rattle.semantics.specs.Multiset.{total}
 use Rattle.semantics.proofs.MultisetSums.{total-append}
-use Rattle.events.specs.Outputs.{counted}
+use Rattle.board.specs.Outputs.{counted}
 use Rattle.board.specs.declared.sent.Sent.{Sent}
 use Rattle.driver.specs.declared.tally.Counts.{Counts}
 use Rattle.driver.specs.Tallies.{Raises, Rows, at, raised}

@@ -1,9 +1,9 @@
 -- Counters say what was done, step after step.
-use Rattle.std.proofs.Common.{◌≡◌, ◌+◌, ◌==◌, ◌∙◌, ℕ, zero, suc, Bool, true, false, cond, List, [], ◌∷◌, ◌++◌, length, refl, sym, ap, subst, arith, min, Option, Some, None, IsSome}
+use Rattle.std.proofs.Common.{◌≡◌, ◌+◌, ◌==◌, ◌∙◌, ℕ, Bool, true, false, cond, List, [], ◌∷◌, ◌++◌, length, refl, sym, ap, subst, arith, Option, Some, None, IsSome}
 use Rattle.std.specs.Prelude.{option_map}
 use Rattle.semantics.specs.Multiset.{Record, total}
 use Rattle.semantics.proofs.MultisetSums.{total-append}
-use Rattle.graph.specs.Shown.{GraphValue, shown_graph}
+use Rattle.graph.specs.Shown.{shown_graph}
 use Rattle.machine.specs.Choices.{IsClaimBy}
 use Rattle.machine.specs.Engine.{network}
 use Rattle.machine.specs.Network.{Network}
@@ -11,9 +11,9 @@ use Rattle.machine.specs.Processing.{event_vertex}
 use Rattle.machine.specs.Run.{Run}
 use Rattle.machine.specs.Step.{Allowed, Step, after_step}
 use Rattle.machine.specs.World.{Event, World}
-use Rattle.events.specs.Jobs.{Pass}
-use Rattle.events.specs.Outputs.{counted, records_with}
-use Rattle.board.specs.Answers.{Claims, Gathers, Hands, MergesAll}
+use Rattle.board.specs.Jobs.{Pass}
+use Rattle.board.specs.Outputs.{counted, records_with}
+use Rattle.board.specs.Answers.{Claims, Gathers, MergesAll}
 use Rattle.board.specs.Counting.{TellsCommit, records_sent}
 use Rattle.board.specs.Kept.{Goes}
 use Rattle.board.specs.Showing.{Shows}

@@ -2,7 +2,7 @@
 use Rattle.std.specs.Prelude.{◌≡◌, ℕ, List, Option, Result, Ok, Err}
 use Rattle.semantics.specs.Multiset.{Record}
 use Rattle.machine.specs.Step.{Step}
-use Rattle.events.specs.Jobs.{Pass}
+use Rattle.board.specs.Jobs.{Pass}
 use Rattle.rows.specs.declared.fault.WorkFault.{WorkFault}
 use Rattle.rows.specs.declared.fault.WorkFault.TheVariants.{Count, NoMemory}
 use Rattle.driver.specs.declared.ended.Ended.{Ended}

@@ -1,7 +1,7 @@
 -- What the counters say that was taken in.
 use Rattle.std.specs.Prelude.{ℕ, List}
 use Rattle.semantics.specs.Multiset.{total}
-use Rattle.events.specs.Outputs.{counted}
+use Rattle.board.specs.Outputs.{counted}
 use Rattle.driver.specs.Tallies.{Rows}
 use Rattle.driver.specs.declared.tally.Counts.{Counts}
 

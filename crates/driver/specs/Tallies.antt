@@ -7,7 +7,7 @@ use Rattle.machine.specs.Processing.{event_vertex}
 use Rattle.machine.specs.Run.{Run}
 use Rattle.machine.specs.Step.{Step}
 use Rattle.machine.specs.World.{Event, World}
-use Rattle.events.specs.Outputs.{counted, records_with}
+use Rattle.board.specs.Outputs.{counted, records_with}
 use Rattle.board.specs.Counting.{records_sent}
 use Rattle.board.specs.Showing.{Shows}
 use Rattle.board.specs.Shown.{Shown, net}

@@ -5,8 +5,7 @@ ghost use Rattle.board.specs.Answers.{Claims, Gathers, IfNothing};
 ghost use Rattle.board.specs.Lateness.{IsUpToDate};
 ghost use Rattle.board.specs.Shown.{Shown, tables};
 
-use board::{Board, Claimed, gather};
-use views::Views;
+use board::{Board, Claimed, Views, gather};
 
 /// Hands out an event to the worker, if it has one. Its messages that are alike are merged before, so that many small messages are one event.
 pub fn claim<V: Views>(board: &mut Board<V>, worker: u32) -> Claimed

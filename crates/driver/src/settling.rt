@@ -10,12 +10,10 @@ ghost use Rattle.board.specs.Overflow.{DoesOverflow, NeverOverflows};
 ghost use Rattle.board.specs.Shown.{tables};
 ghost use Rattle.driver.specs.Ends.{Abandons, Ends, IsFaultOf, event_of};
 
-use board::{Board, CommitRefusal, Sent};
-use events::{Done, Gate, Work};
+use board::{Board, CommitRefusal, Done, Gate, Sent, Views, Work};
 use record_core::NoMemory;
 use rows::WorkFault;
 use std::alloc::Global;
-use views::Views;
 
 /// Computes an event by the gate. One that is refused is abandoned, which stops the board. `turn` counts the events of the caller's thread.
 pub fn compute<V: Views, G: Gate>(

@@ -1,14 +1,13 @@
 //! Counts what each vertex did at each worker.
 
 ghost use Rattle.std.specs.Prelude.{◌≡◌, ◌+◌, [], IfOk, length, map, slice_index_or};
-ghost use Rattle.events.specs.Outputs.{counted};
+ghost use Rattle.board.specs.Outputs.{counted};
 ghost use Rattle.board.specs.Shown.{Shown};
 ghost use Rattle.driver.specs.Tallies.{AreZero, Covers, CoversAll, IsTally, IsZero, Raises, RaisesIn, raised};
 
-use board::{Board, Sent};
+use board::{Board, Sent, Views};
 use std::alloc::{AllocError, Global};
 use std::marker::Model;
-use views::Views;
 
 /// What a vertex did at a worker. A number that would pass 18446744073709551615 stays there.
 #[derive(Clone, Copy, PartialEq, Eq)]

@@ -1,11 +1,15 @@
 //! A run of a whole input.
 
-ghost use Rattle.std.specs.Prelude.{◌≡◌, ◌≤◌, ◌<◌, ℕ, [], None, Some, IfOk, OnErr, vec_capacity};
-ghost use Rattle.board.specs.Promises.{CountsPassed, IsDrained};
+ghost use Rattle.std.specs.Prelude.{◌≡◌, ◌≤◌, ◌<◌, ℕ, [], None, Some, IfErr, IfOk, OnErr, length, vec_capacity};
+ghost use Rattle.semantics.specs.Graph.{input_count};
+ghost use Rattle.graph.specs.Shown.{shown_graph};
+ghost use Rattle.board.specs.Promises.{CountsPassed, IsDrained, IsOpening};
 ghost use Rattle.board.specs.Shown.{tables};
 ghost use Rattle.driver.specs.Tallies.{IsTally};
 ghost use Rattle.driver.specs.Received.{received_of};
-ghost use Rattle.execution.specs.Fed.{IsWorkedOff};
+ghost use Rattle.collector.specs.ReadEpochs.{epoch_count};
+ghost use Rattle.execution.specs.Fed.{HoldsFed, IsWorkedOff};
+ghost use Rattle.execution.specs.Single.{Fit, IsOfWork};
 ghost use Rattle.execution.specs.Told.{IsNear, IsTold, Tells, untold};
 ghost use Rattle.execution.specs.declared.watching.Progress.{Progress};
 
@@ -76,6 +80,7 @@ fn drive<J: Naming + Send + Sync, V: Views + Send, R: Threads + Wait + Sync, G: 
     requires begins { IsTally start.board.shown start.board.shown start.tally }
     ensures graph { IfOk result (λ r. r.report.graph ≡ J.graph) }
     ensures drained { IfOk result (λ r. IsDrained r.report) }
+    ensures fed { IfOk result (λ r. HoldsFed r.report task.entry.inputs task.entry.epochs.now (epoch_count task.entry.epochs.now)) }
     ensures counts { IfOk result (λ r. IsTally J.first r.report r.tally) }
 {
     let Start { board, tally } = start;
@@ -111,6 +116,7 @@ fn drive_watched<
     requires untold { watch.old.told ≡ untold }
     ensures graph { IfOk result (λ r. r.report.graph ≡ J.graph) }
     ensures drained { IfOk result (λ r. IsDrained r.report) }
+    ensures fed { IfOk result (λ r. HoldsFed r.report task.entry.inputs task.entry.epochs.now (epoch_count task.entry.epochs.now)) }
     ensures counts { IfOk result (λ r. IsTally J.first r.report r.tally) }
     ensures most { IfOk result (λ r. (n : ℕ) → CountsPassed r.report n → watch.new.told.passed ≤ n) }
     ensures received { IfOk result (λ r. watch.new.told.received ≤ received_of r.tally) }
@@ -144,7 +150,7 @@ fn drive_watched<
     finished(Finish { report, tally }, task, done)
 }
 
-/// The end of a run in which nothing is left to do.
+/// The end of a run of several workers in which nothing is left to do, and that was fed what was read.
 fn finished<V: Views>(
     finish: Finish<V>,
     task: Task<'_>,
@@ -152,15 +158,18 @@ fn finished<V: Views>(
 ) -> Result<Finish<V>, Unfinished>
     ensures same { IfOk result (λ r. r ≡ finish) }
     ensures drained { IfOk result (λ r. IsDrained r.report) }
+    ensures fed { IfOk result (λ r. HoldsFed r.report task.entry.inputs task.entry.epochs.now (epoch_count task.entry.epochs.now)) }
 {
     if task.notice.is_over() {
         return Err(Unfinished::Count);
     }
     done?;
-    if finish.report.drained() {
+    if finish.report.stopped() {
+        return Err(Unfinished::NoMemory);
+    }
+    let epochs = task.epochs;
+    if finish.report.drained() && is_fed(&finish.report, task.inputs, epochs, epochs.count()) {
         Ok(finish)
-    } else if finish.report.stopped() {
-        Err(Unfinished::NoMemory)
     } else {
         Err(Unfinished::Incomplete)
     }
@@ -178,16 +187,24 @@ fn drive_any<V: Views + Send, R: Threads + Wait + Sync, G: Gate + Sync, W: Write
 ) -> Result<Finish<V>, Unfinished>
     requires begins { IsTally start.board.shown start.board.shown start.tally }
     requires untold { watch.old.told ≡ untold }
+    requires workers { task.workers ≡ length start.board.shown.sides }
+    requires new { IsOpening start.board.shown.graph (length start.board.shown.sides) start.board.shown }
+    requires inputs { task.inputs ≤ input_count (shown_graph start.board.shown.graph) }
+    requires fit { Fit task.epochs.now start.board.shown.graph }
     ensures graph { IfOk result (λ r. r.report.graph ≡ start.board.shown.graph) }
     ensures drained { IfOk result (λ r. IsDrained r.report) }
+    ensures fed { IfOk result (λ r. HoldsFed r.report task.entry.inputs task.entry.epochs.now (epoch_count task.entry.epochs.now)) }
     ensures counts { IfOk result (λ r. IsTally start.board.shown r.report r.tally) }
     ensures most { IfOk result (λ r. (n : ℕ) → CountsPassed r.report n → watch.new.told.passed ≤ n) }
     ensures received { IfOk result (λ r. watch.new.told.received ≤ received_of r.tally) }
     ensures tells { Tells W.contents watch.old.watcher watch.new.watcher watch.old.told watch.new.told }
+    ensures alone { task.entry.workers ≡ 1 → task.entry.threads ≤ 1 → IfErr result IsOfWork }
 {
     if task.workers == 1 {
-        try_threads(rt, task.threads)?;
-        return run_single(alloc, start, task, gate, watch);
+        if task.threads > 1 {
+            try_threads(rt, task.threads)?;
+        }
+        return Ok(run_single(alloc, start, task, gate, watch)?);
     }
     if !watch.is_on() {
         let (_mark, publisher, _seats) = Mark::new(alloc, 0)?;
@@ -213,10 +230,13 @@ fn run<V: Views + Send, R: Threads + Wait + Sync, G: Gate + Sync, W: Write + Sen
 ) -> Result<Finish<V>, Unfinished>
     requires begins { IsTally start.board.shown start.board.shown start.tally }
     requires untold { watch.old.told ≡ untold }
+    requires new { IsOpening start.board.shown.graph (length start.board.shown.sides) start.board.shown }
+    requires fit { Fit epochs.now start.board.shown.graph }
     ensures worked { IfOk result (λ r. IsWorkedOff start.board.shown.graph r.report epochs.now) }
     ensures counts { IfOk result (λ r. IsTally start.board.shown r.report r.tally) }
     ensures last { IfOk result (λ r. CountsPassed r.report watch.new.told.passed) }
     ensures received { IfOk result (λ r. IsNear watch.new.told.received (received_of r.tally)) }
+    ensures alone { length start.board.shown.sides ≡ 1 → threads ≤ 1 → IfErr result IsOfWork }
     ensures tells { Tells W.contents watch.old.watcher watch.new.watcher watch.old.told watch.new.told }
 {
     let graph = start.board.graph();
@@ -234,18 +254,15 @@ fn run<V: Views + Send, R: Threads + Wait + Sync, G: Gate + Sync, W: Write + Sen
     let passed = finish.report.passed();
     watch.tell_received(received(&finish.tally));
     watch.tell_rise(passed);
-    if is_fed(&finish.report, inputs, epochs, epochs.count()) {
-        Ok(finish)
-    } else {
-        Err(Unfinished::Incomplete)
-    }
+    Ok(finish)
 }
 
 /// Feeds the epochs to a new board, and runs it until nothing is left to do. The gate computes each event. Before the first feed `threads` threads are
 /// started, or one for each worker if that is more. A single worker has the caller's thread, and no lock; where one thread is asked for, none is
 /// started then.
 ///
-/// Ok only if nothing is left to do, and each input was fed, at each epoch, exactly what was read. A watcher writes how many epochs have passed, as
+/// Ok only if nothing is left to do, and each input was fed, at each epoch, exactly what was read. A run of one worker that starts no threads fails for
+/// lack of memory or for a count alone. A watcher writes how many epochs have passed, as
 /// `passed M` with rising numbers, of which the last is how many have passed at the end; and, as `received N`, how many records the vertices took in,
 /// each time that the counters have risen by 1,048,576. If its writer fails, nothing else changes. The counters say what each vertex did at each
 /// worker.
@@ -258,10 +275,13 @@ pub fn execute<V: Views + Send, R: Threads + Wait + Sync, G: Gate + Sync, W: Wri
     gate: &G,
     watcher: &mut Option<Watcher<W>>,
 ) -> Result<Finish<V>, Unfinished>
-    requires { IsTally start.board.shown start.board.shown start.tally }
+    requires begins { IsTally start.board.shown start.board.shown start.tally }
+    requires new { IsOpening start.board.shown.graph (length start.board.shown.sides) start.board.shown }
+    requires fit { Fit epochs.now start.board.shown.graph }
     ensures worked { IfOk result (λ r. IsWorkedOff start.board.shown.graph r.report epochs.now) }
     ensures counts { IfOk result (λ r. IsTally start.board.shown r.report r.tally) }
     ensures told { IfOk result (λ r. (n : Progress) × CountsPassed r.report n.passed × IsNear n.received (received_of r.tally) × IsTold W.contents watcher.old watcher.new n) }
+    ensures alone { length start.board.shown.sides ≡ 1 → threads ≤ 1 → IfErr result IsOfWork }
     ensures begun { OnErr result ((n : Progress) × IsTold W.contents watcher.old watcher.new n) }
 {
     let mut watch = Watch::begin(watcher);

@@ -14,10 +14,10 @@
 //!
 //! If a count is too large at any worker, `execute` reports that before lack of memory.
 //!
-//! The contract for `console` above: the report that `execute` gives is of the board's graph, it is drained, and its inputs were fed what was
-//! read. The report keeps the promise of its board, so what was emitted at each output for each epoch is what the query means there. None of
-//! this depends on what the threads did: the report itself is checked. Below are `workers`, `alone`, `board` and `collector`,
-//! with what these use.
+//! The contract for `commands` above: the report that `execute` gives is of the board's graph, it is drained, and its inputs were fed what was
+//! read. The report keeps the promise of its board, so what was emitted at each output for each epoch is what the query means there. With
+//! several workers none of this depends on what the threads did: the report itself is checked. With one it is proved of the loop that feeds and works.
+//! Below are `workers`, `alone`, `board` and `collector`, with what these use.
 #![tactic(auto)]
 
 mod executing;
@@ -39,3 +39,4 @@ pub use parallelism::Parallelism;
 pub use start::{Finish, Start};
 pub use unfinished::Unfinished;
 pub use watching::{Telling, Watcher, takes_all};
+pub use workers::{Gate, NoGate, Report};

@@ -15,7 +15,7 @@ const RECORDS_EACH: u64 = 512;
 
 /// The threads of a run, and the workers among whom the records are divided. A single worker works in the thread that feeds; of several
 /// each has a thread, and threads without a worker have nothing to do.
-#[derive(Clone, Copy, Debug, PartialEq, Eq)]
+#[derive(Clone, Copy)]
 pub struct Parallelism {
     threads: u32,
     workers: u32,

@@ -14,11 +14,8 @@ use std::thread::{Scope, Threads, join, scope, scope_env};
 use views::Views;
 use workers::{Engine, Gate, Naming, work};
 
-/// Starts several threads, where they are asked for, that have nothing to do: so whether the system grants a run's threads doesn't depend on its input.
+/// Starts threads that have nothing to do: so whether the system grants a run's threads doesn't depend on its input.
 pub fn try_threads<R: Threads + Wait + Sync>(rt: &R, threads: u32) -> Result<(), Unfinished> {
-    if threads == 1 {
-        return Ok(());
-    }
     scope(scope_env(), rt, move |started| {
         for _thread in 0..threads {
             if started.spawn(move || {}).is_err() {

@@ -1,12 +1,16 @@
 //! Why a run has no report.
 
+ghost use Rattle.std.specs.Prelude.{◌≡◌};
+ghost use Rattle.execution.specs.Single.{unfinished_of};
+
 use board::StepRefusal;
 use record_core::NoMemory;
+use rows::WorkFault;
 use std::alloc::AllocError;
 use thiserror::Error;
 
 /// Why there is no report.
-#[derive(Clone, Copy, Debug, PartialEq, Eq, Error)]
+#[derive(Clone, Copy, Debug, Error)]
 pub enum Unfinished {
     /// The feeder or a worker had no memory.
     #[error("out of memory")]
@@ -17,8 +21,8 @@ pub enum Unfinished {
     /// A worker's thread could not be started.
     #[error("cannot start a worker")]
     NoWorker,
-    /// The engine refused a call for a reason other than memory, or it isn't drained, or it was fed something other than what was read. No run is
-    /// known that ends like this.
+    /// With several workers: the engine refused a call for a reason other than memory, or it isn't drained, or it was fed something other than what was
+    /// read. No run is known that ends like this.
     #[error("the run is incomplete")]
     Incomplete,
 }
@@ -34,6 +38,17 @@ impl From<StepRefusal> for Unfinished {
             | StepRefusal::LastEpoch
             | StepRefusal::HoldsEvent
             | StepRefusal::NoSuchEvent => Unfinished::Incomplete,
+        }
+    }
+}
+
+impl From<WorkFault> for Unfinished {
+    ghost from_gives = { λ fault u. u ≡ unfinished_of fault };
+
+    fn from(fault: WorkFault) -> Unfinished {
+        match fault {
+            WorkFault::NoMemory => Unfinished::NoMemory,
+            WorkFault::Count => Unfinished::Count,
         }
     }
 }

@@ -18,7 +18,7 @@ use workers::{Engine, Mark, Naming, Seat};
 pub const INTERVAL: u64 = 1_048_576;
 
 /// How a watcher writes how far a run is.
-#[derive(Clone, Copy, Debug, PartialEq, Eq)]
+#[derive(Clone, Copy)]
 pub enum Telling {
     /// One line each time, for a file or a pipe.
     Lines,
@@ -29,7 +29,7 @@ pub enum Telling {
 }
 
 /// How far a run is.
-#[derive(Clone, Copy, Debug, PartialEq, Eq)]
+#[derive(Clone, Copy, PartialEq, Eq)]
 pub struct Progress {
     /// The epochs that have passed at every output.
     pub passed: u64,
@@ -57,7 +57,7 @@ impl Progress {
 }
 
 /// What is told of a run.
-#[derive(Clone, Copy, Debug, PartialEq, Eq)]
+#[derive(Clone, Copy)]
 pub enum Note {
     /// More epochs have passed.
     Passed(Progress),

@@ -14,12 +14,13 @@ use Rattle.collector.specs.OutputText.{is_plain, label_of}
 use Rattle.follow.specs.Entries.{Entry}
 use Rattle.follow.specs.Follows.{said_records}
 use Rattle.follow.specs.Working.{IsWorkedOff}
-use Rattle.follow.specs.Scenes.{Closes, Grows, IsFedSo, IsFree, IsLive, IsReady, Works, reported_count}
+use Rattle.alone.specs.Scenes.{AreFree, Closes, Grows, IsLive, IsReady, Works}
+use Rattle.follow.specs.Scenes.{IsFedSo, reported_count}
 use Rattle.follow.specs.Steps.{AnswersLast, AnswersOpen, CanReport, FeedsPortion, HasAnswered, MayAnswer, MayReport, Reports}
 use Rattle.follow.specs.declared.intake.Intake.{Intake}
 use Rattle.follow.specs.declared.reporting.Reporting.{Reporting}
 use Rattle.follow.proofs.Fed.{all_fed, all_worked, worked}
-use Rattle.follow.proofs.Moved.{grows_on}
+use Rattle.alone.proofs.Moved.{grows_on}
 use Rattle.follow.proofs.Reported.{report_later}
 
 pub on_ok : {T E A B : Type 0} (r : Result T E) → (A → B) → OnOk r A → OnOk r B
@@ -68,7 +69,7 @@ so_fed offset base s x u sealed (items, entries, text, f, can) = (base, items, f
 pub ready_later : (offset : ℕ) → (base : ℕ) (s t : Shown) (x y : Intake) (u : Reporting) (sealed : ℕ) → FeedsPortion s t x y → MayAnswer offset s base x u sealed → IsReady t
 ready_later offset base s t x y u sealed sent (items, entries, text, f, can) = (sent.fed base items f).0.ready
 
-pub free_later : (offset : ℕ) → (base : ℕ) (s t : Shown) (x y : Intake) (u : Reporting) (sealed : ℕ) → FeedsPortion s t x y → MayAnswer offset s base x u sealed → IsFree t
+pub free_later : (offset : ℕ) → (base : ℕ) (s t : Shown) (x y : Intake) (u : Reporting) (sealed : ℕ) → FeedsPortion s t x y → MayAnswer offset s base x u sealed → AreFree t
 free_later offset base s t x y u sealed sent may = (ready_later offset base s t x y u sealed sent may).free
 
 -- what was answered before, once what waited was fed and worked off
@@ -79,7 +80,7 @@ may_later offset base s t w x y u sealed sent works at (items, entries, text, f,
     let c : sealed ≡ x.begun - 1 = at ∙ ap (λ n. n - 1) sent.holds.begun in
     (items, entries, text, all_worked t w base items (all_fed t y base items g.0 sent.none) worked_off.grows.live worked_off.fed, omega (arith, at), can_later offset s w base u items x.begun y.begun (x.begun - 1) sealed entries text (grows_on s t w g.1 worked_off.grows) sent.holds.begun c can)
 
-pub goes_by : (offset : ℕ) → (base : ℕ) (s t w : Shown) (x y : Intake) (u v : Reporting) (sealed : ℕ) (start out : List ℕ) → FeedsPortion s t x y → (IsLive t → Works t w) → IsFree w → sealed ≡ y.begun - 1 → start ≡ [] → Reports offset w base u v y.begun sealed start out → AnswersOpen offset base s w x y u v out
+pub goes_by : (offset : ℕ) → (base : ℕ) (s t w : Shown) (x y : Intake) (u v : Reporting) (sealed : ℕ) (start out : List ℕ) → FeedsPortion s t x y → (IsLive t → Works t w) → AreFree w → sealed ≡ y.begun - 1 → start ≡ [] → Reports offset w base u v y.begun sealed start out → AnswersOpen offset base s w x y u v out
 unfolding may_later
 goes_by offset base s t w x y u v sealed start out sent works free at none reports = λ items entries text f can.
     let g = sent.fed base items f in

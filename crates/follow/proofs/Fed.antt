@@ -14,7 +14,8 @@ use Rattle.collector.specs.InputText.{epochs_after, records_in}
 use Rattle.collector.proofs.LinesRead.{epoch_push, epochs_push, row_push}
 use Rattle.follow.specs.Follows.{said_records}
 use Rattle.std.specs.Prelude.{Some, slice_get, slice_index_or}
-use Rattle.follow.specs.Scenes.{Feeds, Grows, IsAllFed, IsFed, IsFedSo, IsFree, IsLive, IsReady, Seals, Works, arity_at, declared_arities, fed_at, missing, no_rows, open_at, waiting}
+use Rattle.alone.specs.Scenes.{AreFree, Feeds, Grows, IsLive, IsReady, Seals, Works, fed_at, open_at}
+use Rattle.follow.specs.Scenes.{IsAllFed, IsFed, IsFedSo, arity_at, declared_arities, missing, no_rows, waiting}
 use Rattle.semantics.specs.Query.{Input}
 use Rattle.semantics.specs.Graph.{input_count}
 use Rattle.graph.specs.Shown.{GraphValue, shown_graph, shown_inputs}
@@ -23,7 +24,7 @@ use Rattle.board.specs.Fitting.{arity_in}
 use Rattle.std.proofs.lemmas.Option.{get_or_from_slice_get, slice_get-get_or, slice_get_within}
 use Rattle.follow.specs.Steps.{CanTake, Counts, Empties, Gathers, Holds, TakesItem, FeedsRows, FeedsPortion}
 use Rattle.follow.specs.declared.intake.Intake.{Intake}
-use Rattle.follow.proofs.Moved.{grows_not, grows_on}
+use Rattle.alone.proofs.Moved.{grows_not, grows_on}
 
 nothing_either : (b : Bool) (xs : List Record) → xs ≡ [] → cond b xs [] ≡ []
 nothing_either true xs e = e
@@ -179,7 +180,7 @@ begun_at s t x y base items f none ready grows fed begun same opened = record {
     empty : (i : ℕ) → waiting y i ≡ []
     empty i = waits_same i ∙ none i
 
-pub worked : (s t : Shown) (x : Intake) (base : ℕ) (items : List Item) → IsFed s base x items → Works s t → IsFree t → IsFed t base x items
+pub worked : (s t : Shown) (x : Intake) (base : ℕ) (items : List Item) → IsFed s base x items → Works s t → AreFree t → IsFed t base x items
 worked s t x base items f w free = record {
   live = w.grows.live;
   ready = record { free = free; unclosed = λ i. w.closed i ∙ f.ready.unclosed i };

@@ -5,7 +5,6 @@ pub mod Entries
 pub mod Fed
 pub mod Items
 pub mod Lines
-pub mod Moved
 pub mod Positions
 pub mod Renewed
 pub mod Reported

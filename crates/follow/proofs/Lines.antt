@@ -13,13 +13,14 @@ use Rattle.collector.proofs.LinesRead.{filled, say_push}
 use Rattle.graph.specs.Shown.{shown_inputs}
 use Rattle.collector.specs.InputText.{LinesSay, epochs_after}
 use Rattle.follow.specs.Follows.{IsTooLong}
-use Rattle.follow.specs.Scenes.{Grows, HasTaken, IsTakenSo}
+use Rattle.alone.specs.Scenes.{Grows}
+use Rattle.follow.specs.Scenes.{HasTaken, IsTakenSo}
 use Rattle.follow.specs.Steps.{CanTake, Continues, Counts, TakesItem, TakesLines}
 use Rattle.follow.specs.declared.intake.Intake.{Intake}
 use Rattle.follow.specs.declared.line_stop.Taken.TheVariants as taken
 use Rattle.follow.proofs.Fed.{counted_fed}
 use Rattle.follow.proofs.Items.{continues_here, continues_item, continues_on}
-use Rattle.follow.proofs.Moved.{grows_not, grows_on}
+use Rattle.alone.proofs.Moved.{grows_not, grows_on}
 
 -- lines were taken, after those taken at first
 pub record TakenSo (base : ℕ) (s t : Shown) (y : Intake) (inputs : List Input) (bytes rest : List ℕ) (items : List Item) : Type 0 where

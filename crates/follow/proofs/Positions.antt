@@ -22,11 +22,12 @@ use Rattle.collector.specs.declared.refusal.InputRefusal.TheVariants.{At}
 use Rattle.collector.proofs.Writes.{Appends-then}
 use Rattle.follow.specs.Entries.{Entry}
 use Rattle.follow.specs.Follows.{Follows, HasRead, IsAnswer, IsPart, IsReport, Reaches, Writes, said_records}
-use Rattle.follow.specs.Scenes.{Grows, HasReported, HasRoom, IsFed, HasTaken, IsKnown, IsTakenSo, IsWritten, IsWrittenSo, batches_of, declared_arities, reported_count}
+use Rattle.alone.specs.Scenes.{Grows}
+use Rattle.follow.specs.Scenes.{HasReported, HasRoom, IsFed, HasTaken, IsKnown, IsTakenSo, IsWritten, IsWrittenSo, batches_of, declared_arities, reported_count}
 use Rattle.semantics.specs.Graph.{output_numbers}
 use Rattle.board.specs.Promises.{IsOpening}
 use Rattle.follow.proofs.Lines.{few_epochs}
-use Rattle.follow.proofs.Moved.{opening_ready}
+use Rattle.alone.proofs.Moved.{opening_ready}
 use Rattle.follow.specs.Steps.{MayAnswer, CanReport, Continues, IsLastAnswer, AnswersLast, AnswersOpen, IsFresh, IsNew, Stops, TakesLines, ending_of}
 use Rattle.follow.specs.declared.outcome.Ending.{Ending}
 use Rattle.follow.specs.declared.outcome.Ending.TheVariants as ending

@@ -17,7 +17,7 @@ use Rattle.collector.specs.InputText.{epochs_after, records_in}
 use Rattle.collector.proofs.LinesRead.{epoch_push, epochs_push}
 use Rattle.follow.specs.Entries.{Entry, records_of}
 use Rattle.follow.specs.Follows.{IsReport, said_records}
-use Rattle.follow.proofs.Moved.{opening_ready}
+use Rattle.alone.proofs.Moved.{opening_ready}
 use Rattle.follow.specs.Scenes.{IsWritten, batches_of, declared_arities, missing, no_rows, reported_count, waiting}
 use Rattle.follow.specs.Steps.{EndsInEpoch}
 use Rattle.follow.specs.declared.intake.Intake.{Intake}

@@ -18,7 +18,8 @@ use Rattle.collector.specs.OutputText.{is_plain, label_of}
 use Rattle.collector.specs.Lines.{Item}
 use Rattle.follow.specs.Entries.{Entry, complete_line, entry_line, records_of, row_line}
 use Rattle.follow.specs.Follows.{IsGraphOf, IsPart, IsReport, IsWhole, said_records}
-use Rattle.follow.specs.Scenes.{Grows, HasReported, IsAllFed, IsWithin, batches_of, fed_at, reported_count}
+use Rattle.alone.specs.Scenes.{Grows, fed_at}
+use Rattle.follow.specs.Scenes.{HasReported, IsAllFed, IsWithin, batches_of, reported_count}
 use Rattle.follow.specs.Steps.{CanReport, Completes, ReportsOutput, ReportsOpen, HasReportedMore, HasAnswered}
 use Rattle.follow.specs.declared.reporting.Reporting.{Reporting}
 use Rattle.follow.proofs.Entries.{at_place, entries_at, joined_parts, lines_at, of_append, of_other, of_same}

@@ -1,13 +1,10 @@
 -- Lines that are too long to say anything.
-use Rattle.std.proofs.Common.{◌≡◌, ◌≢◌, ◌<◌, ◌≤◌, ◌+◌, ◌*◌, ◌∙◌, ◌↔◌, ℕ, ℤ, zero, suc, Bool, true, false, List, [], ◌∷◌, ◌++◌, Option, Some, None, length, take, drop, refl, sym, ap, subst, arith, inl, inr, get_or, get_or-take, take-append-drop, length-take-le}
+use Rattle.std.proofs.Common.{◌≡◌, ◌≢◌, ◌<◌, ◌≤◌, ◌+◌, ◌*◌, ◌∙◌, ◌↔◌, ℕ, ℤ, suc, Bool, true, false, List, [], ◌∷◌, ◌++◌, Option, Some, None, length, take, drop, refl, sym, ap, arith, inl, inr, get_or, get_or-take, take-append-drop, length-take-le}
 use Rattle.std.proofs.lemmas.Bool.Decides.{eqb_tells, leb_tells}
 use Rattle.std.proofs.lemmas.Fmt.{length_signed_le}
 use Rattle.std.proofs.lemmas.List.{length-append}
 use Rattle.std.proofs.lemmas.List.Splits.{length-slice_split}
-use Rattle.std.specs.List.{AllByRecursion}
-use Rattle.std.specs.Prelude.{◌==◌, FitsSigned, IfNone, IfSome, IsTrue, codes, is_some, not}
-use Rattle.std.specs.Fmt.{signed_decimal}
-use Rattle.std.specs.Int.{w64}
+use Rattle.std.specs.Prelude.{◌==◌, IfNone, IfSome, IsTrue, is_some, not}
 use Rattle.semantics.specs.Query.{Input}
 use Rattle.decimal.proofs.Numbers.{fits_mag}
 use Rattle.collector.specs.Pieces.{split_on}

@@ -10,7 +10,6 @@ use Rattle.std.proofs.lemmas.Bool.Decides.{eqb_tells}
 use Rattle.graph.specs.Shown.{GraphValue}
 use Rattle.machine.specs.World.{Event, Held, World}
 use Rattle.machine.specs.Step.{Step, after_step, merged}
-use Rattle.ending.specs.Ending.{IsWork}
 use Rattle.events.specs.Jobs.{Pass}
 use Rattle.board.specs.Answers.{Claims, Gathers, Hands, HasNoChoice, Merges, MergesAll}
 use Rattle.board.specs.Kept.{Goes}
@@ -22,51 +21,25 @@ use Rattle.board.specs.WorkerShown.{IsIdle}
 use Rattle.board.specs.declared.board.Claimed.{Claimed}
 use Rattle.board.specs.declared.board.Claimed.TheVariants.{Busy, Drained, Idle, Stopped}
 use Rattle.alone.specs.Rests.{IsAtRest}
-use Rattle.alone.proofs.Less.{claim_works, gathers_lead, left, left_less, reached_on}
+use Rattle.alone.proofs.Less.{gathers_lead, left, left_less, reached_on}
 use Rattle.alone.proofs.Resting.{passed_over}
 use Rattle.follow.specs.Slots.{event_in, workers_of}
 use Rattle.follow.specs.declared.slot.Slot.{Slot}
-use Rattle.follow.specs.Working.{EndsAlone, IsFreeAt, TakesAlone, Advances, HasEnded, HasNoEvent, HasWorked, HaveNoEvent, IsBusy, IsWorkedOff, Leads, Moves, TookNothing}
-use Rattle.follow.specs.Scenes.{IsFree, IsFreeBut, IsLive, Works}
+use Rattle.alone.specs.Moves.{Advances, LeadsBy, Moves}
+use Rattle.follow.specs.Working.{EndsAlone, IsFreeAt, TakesAlone, HasEnded, HasNoEvent, HasWorked, HaveNoEvent, IsBusy, IsWorkedOff, TookNothing}
+use Rattle.alone.specs.Scenes.{AreFree, AreFreeBut, IsLive}
 use Rattle.follow.specs.declared.outcome.Halt.{Halt}
 use Rattle.follow.specs.declared.rounds.Round.{Round}
 use Rattle.follow.specs.declared.rounds.Round.TheVariants as round
-use Rattle.follow.proofs.Moved.{free_by, holds_nothing, still_free, steps_work, works_not, works_on}
-
--- ---- steps
-
-pub stays : (s t : Shown) → t ≡ s → Moves s t
-stays s t same = (0, same)
-
-pub one_step : (s t : Shown) (step : Step) → IsWork step → Goes s step t → Advances s t
-one_step s t step work goes = (0, (s, refl, (step, work, goes)))
-
-pub advances_move : (s t : Shown) → Advances s t → Moves s t
-advances_move s t (n, steps) = (suc n, steps)
-
-pub moves_on : (s t u : Shown) → Moves s t → Moves t u → Moves s u
-moves_on s t u first (zero, same) = subst (Moves s) (sym same) first
-moves_on s t u first (suc n, (v, before, last)) = let a = moves_on s t v first (n, before) in (suc a.0, (v, a.1, last))
-
-pub then_advances : (s t u : Shown) → Moves s t → Advances t u → Advances s u
-then_advances s t u first (n, (v, before, last)) = let a = moves_on s t v first (n, before) in (a.0, (v, a.1, last))
-
-pub advances_on : (s t u : Shown) → Advances s t → Moves t u → Advances s u
-advances_on s t u first (zero, same) = subst (Advances s) (sym same) first
-advances_on s t u first (suc n, steps) = then_advances s t u (advances_move s t first) (n, steps)
-
-pub moves_work : (s t : Shown) → Moves s t → IsLive s → Works s t
-moves_work s t (zero, same) live = subst (Works s) (sym same) (works_not s live)
-moves_work s t (suc n, (u, before, (step, work, goes))) live =
-    let a = moves_work s u (n, before) live in
-    works_on s u t a (steps_work u t step work goes a.grows.live)
+use Rattle.alone.proofs.Moved.{free_by, holds_nothing, still_free}
+use Rattle.alone.proofs.Stepping.{advances_move, advances_on, then_advances}
 
 -- what further steps lead to, with less or as much left
 record LeadsTo (s t : Shown) (n : ℕ) : Type 0 where
   reached : IsReached t
   less : left t + n ≤ left s
 
-leads_to : (n : ℕ) (s t : Shown) → IsReached s → Leads n s t → LeadsTo s t n
+leads_to : (n : ℕ) (s t : Shown) → IsReached s → LeadsBy n s t → LeadsTo s t n
 leads_to zero s t r same = record { reached = subst IsReached (sym same) r; less = let e : left t ≡ left s = ap left same in omega (arith, e) }
 leads_to (suc n) s t r (u, before, (step, work, goes)) =
     let a = leads_to n s u r before in
@@ -102,8 +75,8 @@ as_many s t same = let a = length-map s.sides (λ (x : Side). x.table) in let b 
 pub nothing_pushed : {X : Type 0} (xs : List X) (x : X) → xs ++ x ∷ [] ≡ [] → ⊥
 nothing_pushed xs x e = let n = length-append xs (x ∷ []) in let m = ap length e in absurd (omega (arith, n, m))
 
-merges_free : (k : ℕ) (places : List ℕ) (s u : Shown) → IsReached s → MergesAll k places s u → (held : List ℕ) → IsFreeBut s held → IsFreeBut u held
-merges_free k [] s u r same held f = subst (λ x. IsFreeBut x held) (sym same) f
+merges_free : (k : ℕ) (places : List ℕ) (s u : Shown) → IsReached s → MergesAll k places s u → (held : List ℕ) → AreFreeBut s held → AreFreeBut u held
+merges_free k [] s u r same held f = subst (λ x. AreFreeBut x held) (sym same) f
 merges_free k (at ∷ places) s u r (v, before, (first, second, goes)) held f =
     let there = (gathers_lead k s v r (places, before)).reached in
     still_free v u (Step.merge k at first second) (there.world, there.shows) goes held refl (λ j. refl) (merges_free k places s v r before held f)
@@ -113,7 +86,7 @@ merges_workers k [] s u same = ap (λ (x : Shown). length x.sides) same
 merges_workers k (at ∷ places) s u (v, before, (first, second, goes)) = goes.workers ∙ merges_workers k places s v before
 
 -- another worker holds nothing
-other_held : (u : Shown) (live : IsLive u) (held : List ℕ) (k k' : ℕ) (x : Held) → k' ≡ k → IsFreeBut u held → (j : ℕ) → j < length u.sides → AllByRecursion (λ (i : ℕ). i ≢ j) (held ++ k ∷ []) → cond (j == k') x (live.0.held j) ≡ Held.nothing
+other_held : (u : Shown) (live : IsLive u) (held : List ℕ) (k k' : ℕ) (x : Held) → k' ≡ k → AreFreeBut u held → (j : ℕ) → j < length u.sides → AllByRecursion (λ (i : ℕ). i ≢ j) (held ++ k ∷ []) → cond (j == k') x (live.0.held j) ≡ Held.nothing
 other_held u live held k k' x by f j l others = elim (eqb_tells j k') [
   | inl same ↦ absurd ((all_front (λ (i : ℕ). i ≢ j) held k others).1 (sym (same.1 ∙ by)))
   | inr other ↦ ap (λ b. cond b x (live.0.held j)) other.0 ∙ holds_nothing u live held f j l (all_front (λ (i : ℕ). i ≢ j) held k others).0
@@ -173,16 +146,6 @@ pub workers_push : (xs : List Slot) (x : Slot) → workers_of (xs ++ x ∷ []) �
 workers_push xs x = map-append (λ (y : Slot). (event_in y).worker) xs (x ∷ [])
 
 -- ---- claims
-
-merges_move : (k : ℕ) (places : List ℕ) (s t : Shown) → MergesAll k places s t → Moves s t
-merges_move k [] s t same = (0, same)
-merges_move k (at ∷ places) s t (u, before, (first, second, goes)) =
-    let a = merges_move k places s u before in
-    let step : Step = Step.merge k at first second in
-    (suc a.0, (u, a.1, (step, tt, goes)))
-
-pub hands_advance : (s u t : Shown) (k : ℕ) (p : Pass) → Gathers s k u → Hands u k t p → Advances s t
-hands_advance s u t k p (places, gathers) h = then_advances s u t (merges_move k places s u gathers) (one_step u t h.taken (claim_works k h.taken h.by) h.goes)
 
 -- a merge leaves a message, which its worker may claim
 merges_leave : (s u : Shown) (k at : ℕ) → IsReached s → Merges s k at u → HasNoChoice u k → ⊥
@@ -293,8 +256,8 @@ parallel_worked (round.Sent rows) claimed computed n s t u moves none same ended
 
 -- the last of the events is ended
 pub free_more : {T : Type 0} (first : Result Round Halt) (second : Result T Halt) (whole : Result Round Halt) (all xs ys : List Slot) (y : Slot) (s t u : Shown) → xs ≡ ys ++ y ∷ [] → IfOk whole (λ r. (is_ok first ≡ true) × (is_ok second ≡ true))
-    → OnOk first (IsFreeBut s (workers_of all) → IsFreeBut t (workers_of xs)) → OnOk second (EndsAlone t u (event_in y).worker) → OnOk whole (IsFreeBut s (workers_of all) → IsFreeBut u (workers_of ys))
-free_more (Ok r) (Ok x) (Ok q) all xs ys y s t u last both before alone = λ f. alone (workers_of ys) (subst (IsFreeBut t) (ap workers_of last ∙ workers_push ys y) (before f))
+    → OnOk first (AreFreeBut s (workers_of all) → AreFreeBut t (workers_of xs)) → OnOk second (EndsAlone t u (event_in y).worker) → OnOk whole (AreFreeBut s (workers_of all) → AreFreeBut u (workers_of ys))
+free_more (Ok r) (Ok x) (Ok q) all xs ys y s t u last both before alone = λ f. alone (workers_of ys) (subst (AreFreeBut t) (ap workers_of last ∙ workers_push ys y) (before f))
 free_more (Ok r) (Ok x) (Err e) all xs ys y s t u last both before alone = tt
 free_more (Ok r) (Err x) (Ok q) all xs ys y s t u last both before alone = λ f. absurd (let e : false ≡ true = both.1 in cc)
 free_more (Ok r) (Err x) (Err e) all xs ys y s t u last both before alone = tt
@@ -316,10 +279,10 @@ at_rest s without w shows (Step.merge j at m n) work ok = (without j ok.0.0).non
 at_rest s without w shows (Step.commit j event out) work ok = nothing_held s without w shows j event ok.0 ok.1
 at_rest s without w shows (Step.abandon j event) work ok = nothing_held s without w shows j event ok.0 ok.1
 
-pub idle_off : (s t : Shown) → IsReached s → IsFree t → HasWorked round.Idle (length s.sides) s t → IsWorkedOff t
+pub idle_off : (s t : Shown) → IsReached s → AreFree t → HasWorked round.Idle (length s.sides) s t → IsWorkedOff t
 idle_off s t r free h =
     let rest = at_rest s h.1 in
-    let done : IsWorkedOff s = record { free = subst IsFree h.0 free; rests = rest; passed = passed_over s r (h.1 0 r.some).runs rest } in
+    let done : IsWorkedOff s = record { free = subst AreFree h.0 free; rests = rest; passed = passed_over s r (h.1 0 r.some).runs rest } in
     subst IsWorkedOff (sym h.0) done
 
 -- a new board has nothing to do

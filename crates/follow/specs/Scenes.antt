@@ -1,17 +1,12 @@
 -- The state of following: the board, what was taken of the input, and what was written.
-use Rattle.std.specs.Prelude.{◌≡◌, ◌≢◌, ◌<◌, ◌≤◌, ℕ, ◌+◌, ◌-◌, ◌==◌, cond, true, false, List, [], ◌∷◌, ◌++◌, length, map, take, Option, slice_index_or}
-use Rattle.std.specs.List.{AllByRecursion}
+use Rattle.std.specs.Prelude.{◌≡◌, ◌<◌, ◌≤◌, ℕ, ◌+◌, ◌-◌, ◌==◌, cond, List, [], ◌∷◌, ◌++◌, length, map, take, Option, slice_index_or}
 use Rattle.std.specs.Io.KnownBytes.{Appends}
 use Rattle.semantics.specs.Multiset.{Record, ◌≈◌}
 use Rattle.semantics.specs.Query.{Input}
 use Rattle.graph.specs.Shown.{GraphValue, shown_graph, shown_inputs}
-use Rattle.machine.specs.World.{World}
-use Rattle.machine.specs.Step.{put}
 use Rattle.rows.specs.FlatRows.{RowList, joined}
 use Rattle.semantics.specs.Graph.{output_number, output_numbers}
-use Rattle.tokens.specs.declared.rule.Place.TheVariants.{Home}
-use Rattle.board.specs.Shown.{EmitsBehind, Shown, batches_at, input_at, records_at, side_at}
-use Rattle.board.specs.Showing.{Shows}
+use Rattle.board.specs.Shown.{Shown, batches_at}
 use Rattle.collector.specs.Pieces.{split_on}
 use Rattle.collector.specs.Lines.{Item}
 use Rattle.collector.specs.InputText.{LinesSay, epochs_after}
@@ -20,74 +15,13 @@ use Rattle.follow.specs.Follows.{IsPart, IsReport, max_line, said_records}
 use Rattle.follow.specs.declared.intake.Intake.{Intake}
 use Rattle.follow.specs.declared.position.Position.{Position}
 use Rattle.follow.specs.declared.reporting.Reporting.{Reporting}
+use Rattle.alone.specs.Scenes.{IsLive, IsReady, fed_at, open_at}
 
 -- ---- the board
-
--- what an input was fed for an epoch
-abbrev pub fed_at : Shown → (input epoch : ℕ) → List Record
-fed_at s i e = records_at (input_at s i).fed e
-
--- an input's open epoch
-abbrev pub open_at : Shown → (input : ℕ) → ℕ
-open_at s i = (input_at s i).open_epoch
 
 -- the batches that were emitted at an output for an epoch
 abbrev pub batches_of : Shown → (output epoch : ℕ) → List (List Record)
 batches_of s k e = batches_at s.emitted (output_number (shown_graph s.graph) k) e
-
--- there is a world that the board shows
-abbrev pub IsLive : Shown → Type 0
-IsLive s = (w : World) × Shows s w
-
--- the board runs, and no worker holds an event but those in the list
-pub record IsFreeBut (s : Shown) (held : List ℕ) : Type 0 where
-  pub runs : s.stopped ≡ false
-  pub home : (k : ℕ) → k < length s.sides → AllByRecursion (λ (j : ℕ). j ≢ k) held → (side_at s k).place ≡ Home
-
--- the board runs, and no worker holds an event
-abbrev pub IsFree : Shown → Type 0
-IsFree s = IsFreeBut s []
-
--- the same, and every input is open
-pub record IsReady (s : Shown) : Type 0 where
-  pub free : IsFree s
-  pub unclosed : (i : ℕ) → (input_at s i).closed ≡ false
-
--- the graph and what was emitted stay
-pub record Grows (s t : Shown) : Type 0 where
-  pub live : IsLive t
-  pub graph : t.graph ≡ s.graph
-  pub emitted : EmitsBehind s.emitted t.emitted
-
--- nothing is fed, sealed or closed
-pub record Works (s t : Shown) : Type 0 where
-  pub grows : Grows s t
-  pub fed : (i e : ℕ) → fed_at t i e ≡ fed_at s i e
-  pub opened : (i : ℕ) → open_at t i ≡ open_at s i
-  pub closed : (i : ℕ) → (input_at t i).closed ≡ (input_at s i).closed
-
--- the first n inputs were closed
-pub record Closes (s t : Shown) (n : ℕ) : Type 0 where
-  pub grows : Grows s t
-  pub fed : (i e : ℕ) → fed_at t i e ≡ fed_at s i e
-  pub free : IsFree t
-  pub closed : (i : ℕ) → i < n → (input_at t i).closed ≡ true
-  pub others : (i : ℕ) → n ≤ i → (input_at t i).closed ≡ false
-
--- an input was fed records at its open epoch
-pub record Feeds (s t : Shown) (input : ℕ) (batch : List Record) : Type 0 where
-  pub grows : Grows s t
-  pub fed : (i e : ℕ) → fed_at t i e ≡ put (fed_at s) input (put (fed_at s input) (open_at s input) (fed_at s input (open_at s input) ++ batch)) i e
-  pub opened : (i : ℕ) → open_at t i ≡ open_at s i
-  pub ready : IsReady t
-
--- the first n inputs were sealed, once each
-pub record Seals (s t : Shown) (n : ℕ) : Type 0 where
-  pub ready : IsReady t
-  pub grows : Grows s t
-  pub fed : (i e : ℕ) → fed_at t i e ≡ fed_at s i e
-  pub sealed : (i : ℕ) → i < n → open_at t i ≡ open_at s i + 1
-  pub others : (i : ℕ) → n ≤ i → open_at t i ≡ open_at s i
 
 -- ---- what was taken of the input
 

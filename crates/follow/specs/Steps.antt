@@ -15,7 +15,8 @@ use Rattle.collector.specs.declared.refusal.InputRefusal.TheVariants.{At}
 use Rattle.collector.specs.declared.codes.TheConstants.{MALFORMED, NO_LINE_FEED}
 use Rattle.follow.specs.Entries.{Entry, records_of, row_line}
 use Rattle.follow.specs.Follows.{Follows, IsPart, IsTooLong, max_line, said_records}
-use Rattle.follow.specs.Scenes.{Grows, HasTaken, HasReported, HasRoom, IsAllFed, IsFed, IsReady, IsWritten, arities_of, IsPositionAfter, batches_of, fed_at, open_at, reported_count, waiting}
+use Rattle.alone.specs.Scenes.{Grows}
+use Rattle.follow.specs.Scenes.{HasTaken, HasReported, HasRoom, IsAllFed, IsFed, IsWritten, arities_of, IsPositionAfter, batches_of, reported_count, waiting}
 use Rattle.follow.specs.declared.outcome.Ending.{Ending}
 use Rattle.follow.specs.declared.outcome.Ending.TheVariants as ending
 use Rattle.follow.specs.declared.outcome.Halt.{Halt}
@@ -30,14 +31,6 @@ use Rattle.follow.specs.declared.reporting.Reporting.{Reporting}
 abbrev pub ending_of : Halt → Ending
 ending_of halt.NoMemory = ending.NoMemory
 ending_of halt.Count = ending.Count
-
--- an input was sealed
-pub record SealsOne (s t : Shown) (input : ℕ) : Type 0 where
-  pub ready : IsReady t
-  pub grows : Grows s t
-  pub fed : (i e : ℕ) → fed_at t i e ≡ fed_at s i e
-  pub here : open_at t input ≡ open_at s input + 1
-  pub others : (i : ℕ) → i ≢ input → open_at t i ≡ open_at s i
 
 -- ---- what waits
 

@@ -1,45 +1,26 @@
 -- What rounds of work do on a board.
-use Rattle.std.specs.Prelude.{◌≡◌, ◌≢◌, ◌<◌, ℕ, zero, suc, false, List, [], ◌∷◌, ◌++◌}
+use Rattle.std.specs.Prelude.{◌≡◌, ◌≢◌, ◌<◌, ℕ, false, List, [], ◌∷◌, ◌++◌}
 use Rattle.std.specs.List.{AllByRecursion}
-use Rattle.machine.specs.Step.{Step}
-use Rattle.ending.specs.Ending.{IsWork}
 use Rattle.tokens.specs.declared.rule.Place.TheVariants.{Home}
 use Rattle.board.specs.Answers.{HasNoChoice}
-use Rattle.board.specs.Kept.{Goes}
 use Rattle.board.specs.Shown.{Shown, side_at}
 use Rattle.alone.specs.Rests.{HasPassedOver, IsAtRest}
-use Rattle.follow.specs.Scenes.{IsFree, IsFreeBut}
+use Rattle.alone.specs.Scenes.{AreFree, AreFreeBut}
 use Rattle.follow.specs.declared.rounds.Round.{Round}
 use Rattle.follow.specs.declared.rounds.Round.TheVariants.{Idle, Sent}
-
--- a worker takes a step
-abbrev pub TakesStep : Shown → Shown → Type 0
-TakesStep s t = (step : Step) × IsWork step × Goes s step t
-
--- that many steps of workers lead from a state to another
-abbrev pub Leads : ℕ → Shown → Shown → Type 0
-Leads zero s t = t ≡ s
-Leads (suc n) s t = (u : Shown) × Leads n s u × TakesStep u t
-
--- some steps of workers do, or none
-abbrev pub Moves : Shown → Shown → Type 0
-Moves s t = (n : ℕ) × Leads n s t
-
--- at least one does
-abbrev pub Advances : Shown → Shown → Type 0
-Advances s t = (n : ℕ) × Leads (suc n) s t
+use Rattle.alone.specs.Moves.{Advances}
 
 -- the worker is free
 abbrev pub IsFreeAt : Shown → (worker : ℕ) → Type 0
-IsFreeAt s worker = (held : List ℕ) × AllByRecursion (λ (j : ℕ). j ≢ worker) held × IsFreeBut s held
+IsFreeAt s worker = (held : List ℕ) × AllByRecursion (λ (j : ℕ). j ≢ worker) held × AreFreeBut s held
 
 -- once this worker has taken an event too, no other worker holds one
 abbrev pub TakesAlone : (s t : Shown) → (worker : ℕ) → Type 0
-TakesAlone s t worker = (held : List ℕ) → IsFreeBut s held → IsFreeBut t (held ++ worker ∷ [])
+TakesAlone s t worker = (held : List ℕ) → AreFreeBut s held → AreFreeBut t (held ++ worker ∷ [])
 
 -- once this worker's event has ended, it is free
 abbrev pub EndsAlone : (s t : Shown) → (worker : ℕ) → Type 0
-EndsAlone s t worker = (held : List ℕ) → IsFreeBut s (held ++ worker ∷ []) → IsFreeBut t held
+EndsAlone s t worker = (held : List ℕ) → AreFreeBut s (held ++ worker ∷ []) → AreFreeBut t held
 
 -- the board runs, and the worker is free and has no event
 pub record HasNoEvent (s : Shown) (worker : ℕ) : Type 0 where
@@ -72,6 +53,6 @@ IsBusy (Sent rows) = Unit {0}
 
 -- nothing is left to do now: no worker may take a step, and each epoch that is over at every input has passed at every output
 pub record IsWorkedOff (s : Shown) : Type 0 where
-  pub free : IsFree s
+  pub free : AreFree s
   pub rests : IsAtRest s
   pub passed : HasPassedOver s

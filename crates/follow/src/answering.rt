@@ -5,12 +5,12 @@ ghost use Rattle.collector.specs.Lines.{max_epochs};
 ghost use Rattle.follow.specs.Working.{IsWorkedOff};
 ghost use Rattle.follow.specs.Steps.{AnswersLast, AnswersOpen, MayAnswer};
 
-use crate::board_calls::close_inputs;
 use crate::intake::{Intake, feed_portion};
 use crate::numbering::Numbering;
 use crate::outcome::Halt;
 use crate::reporting::{Reporting, report};
 use crate::rounds::work_off;
+use alone::close_inputs;
 use board::{Board, HEAVY};
 use std::alloc::Global;
 use std::thread::Threads;

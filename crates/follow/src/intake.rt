@@ -9,13 +9,13 @@ ghost use Rattle.follow.specs.Scenes.{arity_at, IsFedSo, IsTakenSo};
 ghost use Rattle.follow.specs.Steps.{CanTake, Counts, Empties, FeedsPortion, FeedsRows, Gathers, HaveArities, IsNew, TakesItem, TakesLines};
 ghost use Rattle.follow.specs.declared.line_stop.Taken.TheVariants as taken;
 
-use crate::board_calls::{feed, seal_inputs};
 use crate::line_stop::{Taken, is_too_long};
 use crate::outcome::Halt;
+use alone::{feed, seal_inputs};
 use board::Board;
 use collector::{Line, MALFORMED, Stop, next_line};
 use driver::law_inputs;
-use record_core::DeclaredInput;
+use record_core::{DeclaredInput, NoMemory};
 use rows::{Batch, Rows};
 use std::alloc::Global;
 use std::mem::replace;
@@ -94,7 +94,7 @@ fn feed_rows<V: Views>(
         None => Ok(()),
         Some(batch) => match feed(alloc, board, input as u32, batch) {
             Ok(()) => Ok(()),
-            Err(halt) => Err(halt),
+            Err(NoMemory) => Err(Halt::NoMemory),
         },
     }
 }

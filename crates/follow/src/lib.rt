@@ -15,7 +15,6 @@
 
 mod answering;
 mod batches;
-mod board_calls;
 mod following;
 mod intake;
 mod line_stop;

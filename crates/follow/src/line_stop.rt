@@ -9,7 +9,7 @@ ghost use Rattle.follow.specs.Follows.{IsTooLong, max_line};
 use collector::find;
 
 /// Why taking lines stopped.
-#[derive(Clone, Copy, Debug, PartialEq, Eq)]
+#[derive(Clone, Copy)]
 pub enum Taken {
     /// Every whole line was taken; part of the next line may be left.
     Whole,

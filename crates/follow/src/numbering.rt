@@ -3,7 +3,7 @@
 ghost use Rattle.std.specs.Prelude.{◌≡◌, ◌+◌, ◌≤◌};
 
 /// What the first epoch of an input is called, at most 9223372036854775807: so each epoch of it has a number of 64 bits.
-#[derive(Clone, Copy, Debug, PartialEq, Eq)]
+#[derive(Clone, Copy)]
 pub struct FirstEpoch {
     number: u64,
     ghost few: { number ≤ 9223372036854775807 },

@@ -4,7 +4,6 @@ ghost use Rattle.std.specs.Prelude.{◌≡◌};
 ghost use Rattle.follow.specs.Steps.{ending_of};
 ghost use Rattle.follow.specs.declared.outcome.Halt.TheVariants as halt;
 
-use board::StepRefusal;
 use record_core::NoMemory;
 use rows::WorkFault;
 use std::alloc::{AllocError, AllocFailed};
@@ -69,22 +68,6 @@ impl From<WorkFault> for Halt {
 }
 
 impl Halt {
-    /// The halt for a refusal of the board that is for lack of memory.
-    pub fn of_refusal(refusal: StepRefusal) -> Halt
-        requires { refusal ≡ StepRefusal.NoMemory }
-    {
-        match refusal {
-            StepRefusal::NoMemory => Halt::NoMemory,
-            StepRefusal::Stopped
-            | StepRefusal::UnknownInput
-            | StepRefusal::InputClosed
-            | StepRefusal::WrongFieldCount
-            | StepRefusal::LastEpoch
-            | StepRefusal::HoldsEvent
-            | StepRefusal::NoSuchEvent => unreachable!(),
-        }
-    }
-
     /// The ending for this halt.
     pub fn ending(self) -> Ending
         ensures { result ≡ ending_of self }

@@ -4,8 +4,9 @@ ghost use Rattle.std.specs.Prelude.{◌≡◌, ◌<◌, ◌∷◌, ◌++◌, [],
 ghost use Rattle.atomic_table.specs.Seated.{TableId};
 ghost use Rattle.board.specs.Commits.{IsOf};
 ghost use Rattle.board.specs.Shown.{tables};
-ghost use Rattle.follow.specs.Working.{Advances, EndsAlone, HasEnded, HasNoEvent, HasWorked, IsBusy, IsFreeAt, IsWorkedOff, Moves, TakesAlone, TookNothing};
-ghost use Rattle.follow.specs.Scenes.{IsFree, IsFreeBut, IsLive, Works};
+ghost use Rattle.alone.specs.Moves.{Advances, Moves};
+ghost use Rattle.follow.specs.Working.{EndsAlone, HasEnded, HasNoEvent, HasWorked, IsBusy, IsFreeAt, IsWorkedOff, TakesAlone, TookNothing};
+ghost use Rattle.alone.specs.Scenes.{AreFree, AreFreeBut, IsLive, Works};
 ghost use Rattle.follow.specs.Slots.{IsSlotOf, event_in, workers_of};
 ghost use Rattle.follow.specs.declared.slot.Slot.TheVariants as slot;
 ghost use Rattle.follow.specs.declared.outcome.Halt.TheVariants as halt;
@@ -20,7 +21,7 @@ use std::thread::{Threads, for_each_mut};
 use views::Views;
 
 /// What a round of work did: nothing, since no worker had an event; or events whose largest message had that many rows.
-#[derive(Clone, Copy, Debug, PartialEq, Eq)]
+#[derive(Clone, Copy)]
 enum Round {
     Idle,
     Sent(u64),
@@ -104,12 +105,12 @@ fn keep<V: Views>(board: &mut Board<V>, slots: &mut Vec<Slot>, work: Work) -> Re
 
 /// Claims an event of each worker that has one.
 fn claim_each<V: Views>(board: &mut Board<V>, slots: &mut Vec<Slot>) -> Result<(), Halt>
-    requires free { IsFree board.old.shown }
+    requires free { AreFree board.old.shown }
     requires none { slots.old.items ≡ [] }
     ensures tables { tables board.new.shown ≡ tables board.old.shown }
     ensures own { All (IsSlotOf (tables board.old.shown)) slots.new.items }
     ensures steps { OnOk result (Moves board.old.shown board.new.shown) }
-    ensures free { OnOk result (IsFreeBut board.new.shown (workers_of slots.new.items)) }
+    ensures free { OnOk result (AreFreeBut board.new.shown (workers_of slots.new.items)) }
     ensures none { OnOk result (TookNothing slots.new.items (length board.old.shown.sides) board.old.shown board.new.shown) }
 {
     for worker in 0..board.workers() {
@@ -163,7 +164,7 @@ fn end_each<V: Views>(board: &mut Board<V>, mut slots: Vec<Slot>) -> Result<Roun
     requires own { All (IsSlotOf (tables board.old.shown)) slots.items }
     ensures tables { tables board.new.shown ≡ tables board.old.shown }
     ensures steps { IfOk result (λ r. HasEnded r [] slots.items board.old.shown board.new.shown) }
-    ensures free { OnOk result (IsFreeBut board.old.shown (workers_of slots.items) → IsFree board.new.shown) }
+    ensures free { OnOk result (AreFreeBut board.old.shown (workers_of slots.items) → AreFree board.new.shown) }
 {
     let mut round = Ok(Round::Idle);
     while let Some(slot) = slots.pop() {
@@ -179,9 +180,9 @@ fn work_in_parallel<V: Views, R: Threads + Sync>(
     alloc: Global,
     board: &mut Board<V>,
 ) -> Result<Round, Halt>
-    requires { IsFree board.old.shown }
+    requires { AreFree board.old.shown }
     ensures worked { IfOk result (λ r. HasWorked r (length board.old.shown.sides) board.old.shown board.new.shown) }
-    ensures free { OnOk result (IsFree board.new.shown) }
+    ensures free { OnOk result (AreFree board.new.shown) }
 {
     let mut slots = Vec::with_capacity(alloc, board.workers() as usize)?;
     let claimed = claim_each(board, &mut slots);
@@ -193,9 +194,9 @@ fn work_in_parallel<V: Views, R: Threads + Sync>(
 
 /// Claims an event of each worker that has one, computes it and ends it, one after another.
 fn work_in_turn<V: Views>(alloc: Global, board: &mut Board<V>) -> Result<Round, Halt>
-    requires { IsFree board.old.shown }
+    requires { AreFree board.old.shown }
     ensures worked { IfOk result (λ r. HasWorked r (length board.old.shown.sides) board.old.shown board.new.shown) }
-    ensures free { OnOk result (IsFree board.new.shown) }
+    ensures free { OnOk result (AreFree board.new.shown) }
 {
     let mut round = Round::Idle;
     for worker in 0..board.workers() {
@@ -214,9 +215,9 @@ fn work_once<V: Views, R: Threads + Sync>(
     rows: u64,
     board: &mut Board<V>,
 ) -> Result<Round, Halt>
-    requires { IsFree board.old.shown }
+    requires { AreFree board.old.shown }
     ensures worked { IfOk result (λ r. HasWorked r (length board.old.shown.sides) board.old.shown board.new.shown) }
-    ensures free { OnOk result (IsFree board.new.shown) }
+    ensures free { OnOk result (AreFree board.new.shown) }
 {
     if rows >= HEAVY && board.workers() > 1 {
         return work_in_parallel(rt, alloc, board);
@@ -232,7 +233,7 @@ pub fn work_off<V: Views, R: Threads + Sync>(
     rows: u64,
     board: &mut Board<V>,
 ) -> Result<(), Halt>
-    requires { IsFree board.old.shown }
+    requires { AreFree board.old.shown }
     ensures works { OnOk result (IsLive board.old.shown → Works board.old.shown board.new.shown) }
     ensures rests { OnOk result (IsWorkedOff board.new.shown) }
 {

@@ -4,7 +4,7 @@ ghost use Rattle.std.specs.Prelude.{◌≡◌, ◌<◌, ◌≤◌};
 ghost use Rattle.semantics.specs.Limits.{max_workers};
 
 /// The number of a board's workers, 1 to 64.
-#[derive(Clone, Copy, Debug, PartialEq, Eq)]
+#[derive(Clone, Copy)]
 pub struct WorkerCount {
     count: u32,
     ghost some: { 0 < count },

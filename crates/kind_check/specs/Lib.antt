@@ -1,4 +1,3 @@
-pub mod Found
 pub mod Scopes
-pub mod Operators
 pub mod Steps
+pub use Rattle.field_kinds.specs.Found

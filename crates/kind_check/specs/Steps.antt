@@ -3,7 +3,7 @@ use Rattle.std.specs.Prelude.{◌≡◌, List, [], ◌∷◌, Option, None, ℤ}
 use Rattle.semantics.specs.Query.{Name, Rel, Let, Output}
 use Rattle.kinds.specs.Relations.{Scope, entry, rel_kinds, rest_kinds}
 use Rattle.kinds.specs.declared.kind.Kind.{Kind}
-use Rattle.kind_check.specs.Found.{IfSomeKinds}
+use Rattle.field_kinds.specs.Found.{IfSomeKinds}
 
 -- what a turn of a loop makes of kinds
 abbrev pub turn_kinds : (named : List ℤ) → (body : Rel) → Name → Scope → List Kind → Option (List Kind)

@@ -7,13 +7,13 @@ ghost use Rattle.expr_tree.specs.Plain.{plain_input, plain_let, plain_output, pl
 ghost use Rattle.kinds.specs.Relations as relations;
 ghost use Rattle.expr_tree.specs.PlainLists.{plain_lets, plain_outputs};
 ghost use Rattle.kind_check.specs.Steps.{DeclaresLet, LeadsNowhere, LeadsTo};
-ghost use Rattle.kind_check.specs.Found.{Finds, IsRefused};
+ghost use Rattle.field_kinds.specs.Found.{Finds, IsRefused};
 ghost use Rattle.kind_check.specs.Scopes.{scope_of};
 
-use crate::columns::copied;
 use crate::relation::kinds_of;
 use crate::scope::Scope;
 use expr_tree::{Input, Let, Output, Program};
+use field_kinds::copied;
 use kinds::Kind;
 use record_core::Refusal;
 use std::alloc::{Allocator, Global};

@@ -1,39 +1,22 @@
 //! Kinds of the fields of relations.
 
-ghost use Rattle.std.specs.Prelude.{◌≡◌, ◌∷◌, ◌++◌, map, slice_get, OnOk};
+ghost use Rattle.std.specs.Prelude.{◌≡◌, cond, option_and_then, OnOk, Some};
 ghost use Rattle.expr_tree.specs.Views.{rel_tree};
-ghost use Rattle.expr_tree.specs.Plain.{plain_agg, plain_rel};
-ghost use Rattle.kinds.specs.Kinds as spec;
+ghost use Rattle.expr_tree.specs.Plain.{plain_rel};
 ghost use Rattle.kinds.specs.Relations as relations;
 ghost use Rattle.kind_check.specs.Steps.{turn_kinds};
-ghost use Rattle.kind_check.specs.Found.{Finds};
+ghost use Rattle.field_kinds.specs.Found.{Finds};
 ghost use Rattle.kind_check.specs.Scopes.{scope_of};
 
-use crate::codes::{PUT_TOGETHER, at};
-use crate::columns::{
-    copied, joined, may_join, merged, push_aggs, push_keys, same_kinds, select_kinds,
-};
-use crate::condition::may_ask;
 use crate::scope::Scope;
-use expr_tree::{Agg, Column, Rel};
+use expr_tree::Rel;
+use field_kinds::{
+    PUT_TOGETHER, copied, group_kinds, joined, may_ask, may_join, merged, refusal_at, same_kinds,
+    select_kinds,
+};
 use kinds::Kind;
 use record_core::{Name, Refusal, Span};
 use std::alloc::{Allocator, Global};
-
-/// The kinds of the fields of a `group` over records of these kinds.
-fn group_kinds(
-    alloc: Global,
-    kinds: &[Kind],
-    keys: &[Column],
-    aggregates: &[Agg],
-) -> Result<Vec<Kind>, Refusal>
-    ensures { Finds (λ v. v.items) result (relations.all_of (map (slice_get kinds.now) (map (λ k. k.index) keys.now) ++ map (spec.agg_kind kinds.now) (map plain_agg aggregates.now))) }
-{
-    let mut fields = Vec::new(alloc);
-    push_keys(&mut fields, kinds, keys)?;
-    push_aggs(&mut fields, kinds, aggregates)?;
-    Ok(fields)
-}
 
 /// The kinds of a relation's fields.
 #[cycle(kinds)]
@@ -106,6 +89,18 @@ fn turned<A: Allocator>(
     Ok(turned)
 }
 
+/// These kinds, if what a turn makes of them adds nothing.
+fn kept(alloc: Global, kinds: Vec<Kind>, next: &[Kind], span: Span) -> Result<Vec<Kind>, Refusal>
+    ensures { Finds (λ v. v.items) result (option_and_then (λ os. cond (relations.same_kinds os kinds.items) (Some kinds.items) None) (relations.merged kinds.items next.now)) }
+{
+    let last = merged(alloc, &kinds, next, span)?;
+    if same_kinds(&last, &kinds) {
+        Ok(kinds)
+    } else {
+        Err(refusal_at(PUT_TOGETHER, span))
+    }
+}
+
 /// The kinds of a loop's variable that starts with these. Where the first turn keeps them, there is no need for another.
 #[cycle(kinds)]
 #[tactic(auto, using(crate::proofs::Loops::kept_at_once))]
@@ -127,10 +122,5 @@ fn settled<A: Allocator>(
         return Ok(kinds);
     }
     let next = turned(alloc, named, scope, &kinds, name, body)?;
-    let last = merged(alloc, &kinds, &next, span)?;
-    if same_kinds(&last, &kinds) {
-        Ok(kinds)
-    } else {
-        Err(at(PUT_TOGETHER, span))
-    }
+    kept(alloc, kinds, &next, span)
 }

@@ -3,11 +3,10 @@
 ghost use Rattle.std.specs.Prelude.{◌≡◌, ◌∷◌, ◌++◌, [], drop, IfErr, OnOk};
 ghost use Rattle.record_core.specs.declared.span.Refusal.TheVariants.{NoMemory};
 ghost use Rattle.kinds.specs.Relations.{entry, lookup};
-ghost use Rattle.kind_check.specs.Found.{Finds};
-ghost use Rattle.kind_check.specs.Scopes.{scope_of};
+ghost use Rattle.field_kinds.specs.Found.{Finds};
+ghost use Rattle.kind_check.specs.Scopes.{entry_of, scope_of};
 
-use crate::codes::COMPUTED;
-use crate::columns::copied;
+use field_kinds::{COMPUTED, copied, refusal_at};
 use kinds::Kind;
 use record_core::{Name, Refusal, Span};
 use std::alloc::Global;
@@ -24,6 +23,18 @@ pub(crate) struct Known {
 #[derive(Drop)]
 pub(crate) struct Scope {
     names: VecDeque<Known>,
+}
+
+impl Known {
+    /// The name with the kinds of its fields.
+    fn new(name: &Name, kinds: Vec<Kind>) -> Known
+        ensures { entry_of result ≡ entry name.now kinds.items }
+    {
+        Known {
+            name: name.copied(),
+            kinds,
+        }
+    }
 }
 
 impl Scope {
@@ -48,7 +59,7 @@ impl Scope {
                 return copied(alloc, &known.kinds);
             }
         }
-        Err(crate::codes::at(COMPUTED, span))
+        Err(refusal_at(COMPUTED, span))
     }
 
     /// Declares a name, before all others.
@@ -56,10 +67,8 @@ impl Scope {
         ensures ok { OnOk result (scope_of self.new ≡ entry name.now kinds.items ∷ scope_of self.old) }
         ensures err { IfErr result (λ e. e ≡ NoMemory) }
     {
-        self.names.push_front(Known {
-            name: name.copied(),
-            kinds,
-        })?;
+        let known = Known::new(name, kinds);
+        self.names.push_front(known)?;
         Ok(())
     }
 
@@ -68,10 +77,7 @@ impl Scope {
         ensures ok { OnOk result (scope_of self.new ≡ scope_of self.old ++ entry name.now kinds.items ∷ []) }
         ensures err { IfErr result (λ e. e ≡ NoMemory) }
     {
-        self.names.push_back(Known {
-            name: name.copied(),
-            kinds,
-        })?;
+        self.names.push_back(Known::new(name, kinds))?;
         Ok(())
     }
 

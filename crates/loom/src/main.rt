@@ -17,7 +17,7 @@ use std::thread::Threads;
 use std::{env, io};
 use table_commands::{DiskDrafts, answer_tables, is_of_tables};
 use table_follows::{answer_table_follow, is_table_follow};
-use table_runs::{answer_table_run, is_table_run};
+use table_runs::{answer_table_check, answer_table_run, is_table_check, is_table_run};
 
 /// The words of the line, the first of which is the program's own.
 fn words_given(rt: &HostRuntime) -> Result<Vec<String>, LineFault> {
@@ -61,6 +61,14 @@ fn answer_tables_here(rt: &HostRuntime, words: &[&str]) -> u8 {
     let mut out = Watched::new(io::writer(rt));
     let mut err = rt.stderr();
     answer_tables(rt.alloc(), &disk, &drafts, words, &mut out, &mut err)
+}
+
+/// Answers a line of `check --schema` over the system's files and streams.
+fn check_tables_here(rt: &HostRuntime, words: &[&str]) -> u8 {
+    let disk = Disk::new(rt);
+    let mut out = Watched::new(io::writer(rt));
+    let mut err = rt.stderr();
+    answer_table_check(rt.alloc(), &disk, words, &mut out, &mut err)
 }
 
 /// Answers a line of `run --schema` over the system's files and streams.
@@ -133,6 +141,8 @@ fn answer_line(rt: &HostRuntime, threads: &(impl Threads + Wait + Sync)) -> Resu
     let words = words.as_slice();
     if is_of_tables(words) {
         Ok(answer_tables_here(rt, words))
+    } else if is_table_check(words) {
+        Ok(check_tables_here(rt, words))
     } else if is_table_run(words) {
         Ok(run_tables_here(rt, threads, words))
     } else if is_table_follow(words) {

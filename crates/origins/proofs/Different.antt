@@ -5,9 +5,10 @@ use Rattle.std.specs.List.{AllByRecursion}
 use Rattle.semantics.specs.Multiset.{IsAmong}
 use Rattle.semantics.specs.Meaning.{same_name, repeated}
 use Rattle.semantics.specs.Query.{Name, Scalar, Agg, Rel, Input, Let, Output, Program}
-use Rattle.origins.specs.declared.source.Source.{Source}
-use Rattle.origins.specs.Sources.{Origin, same_source, has, with_source, with_sources, either, merged, origin_at, scalar_origin, agg_origin, columns_from, traced, same_origins}
-use Rattle.origins.specs.Relations.{Scope, entry, lookup, turned, closed, rel_origins, inputs_scope, rest_origins, program_origins}
+use Rattle.field_origins.specs.declared.source.Source.{Source}
+use Rattle.field_origins.specs.Sources.{Origin, same_source, has, with_source, with_sources, either, merged, origin_at, scalar_origin, agg_origin, columns_from, traced, same_origins}
+use Rattle.origins.specs.Relations.{Scope, entry, lookup, rel_origins, inputs_scope, rest_origins, program_origins}
+use Rattle.field_origins.specs.Loops.{turned, closed}
 use Rattle.origins.specs.Standing.{AreDifferent}
 use Rattle.origins.proofs.Among.{among_append}
 use Rattle.origins.proofs.Merging.{source_same}

@@ -7,8 +7,8 @@ use Rattle.semantics.specs.Multiset.{Record, IsAmong, same, is_present, each_onc
 use Rattle.semantics.specs.Meaning.{field, exact, value, project, reduced_from, reduced, aggregate, selected, left_columns, right_columns, paired, with_key, grouped, only_left, in_both, repeated, found_first, found_next, after_turns}
 use Rattle.semantics.specs.Query.{Scalar, Agg, Pair, Loop}
 use Rattle.semantics.proofs.MultisetSums.{Decides-same}
-use Rattle.origins.specs.declared.source.Source.{Source}
-use Rattle.origins.specs.Sources.{Origin, origin_at, scalar_origin, agg_origin}
+use Rattle.field_origins.specs.declared.source.Source.{Source}
+use Rattle.field_origins.specs.Sources.{Origin, origin_at, scalar_origin, agg_origin}
 use Rattle.origins.proofs.Among.{among_map, among_append, among_filter, in_filter, among_once, among_flat}
 
 -- what an origin says of a number, by what it says that it stands in a column

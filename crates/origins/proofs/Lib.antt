@@ -1,4 +1,4 @@
-mod Columns
+mod Declared
 mod LoopParts
 mod Among
 mod Having

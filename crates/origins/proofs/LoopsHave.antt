@@ -8,9 +8,9 @@ use mir.Syntax.{w64}
 use Rattle.semantics.specs.Multiset.{Record, IsAmong}
 use Rattle.semantics.specs.Meaning.{repeated, after_turns}
 use Rattle.semantics.specs.Query.{Loop}
-use Rattle.origins.specs.declared.source.Source.{Source}
-use Rattle.origins.specs.Sources.{Origin, source, either, origin_at, columns_from, traced_source, traced_sources, traced, same_origins}
-use Rattle.origins.specs.Relations.{turned, closed, settled}
+use Rattle.field_origins.specs.declared.source.Source.{Source}
+use Rattle.field_origins.specs.Sources.{Origin, source, either, origin_at, columns_from, traced_source, traced_sources, traced, same_origins}
+use Rattle.field_origins.specs.Loops.{turned, closed, settled}
 use Rattle.origins.specs.Standing.{IsInColumn}
 use Rattle.origins.proofs.Having.{From, Has, Each, has_length, turns_have}
 use Rattle.origins.proofs.Merging.{origins_are, from_left, from_right, merged_left, merged_right, length-merged}

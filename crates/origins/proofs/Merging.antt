@@ -2,8 +2,8 @@
 use Rattle.std.proofs.Common.{◌≡◌, inl, inr, suc, nat_eq, Bool, true, false, cond, ◌&&◌, ◌||◌, List, [], ◌∷◌, ◌++◌, length, ℤ, refl, ap, ap₂, subst, arith}
 use Rattle.std.proofs.lemmas.Bool.Decides.{Decides-eqb}
 use Rattle.semantics.specs.Multiset.{Record, IsAmong}
-use Rattle.origins.specs.declared.source.Source.{Source}
-use Rattle.origins.specs.Sources.{Origin, source, same_source, has, with_source, with_sources, either, merged, same_sources, same_origin, same_origins}
+use Rattle.field_origins.specs.declared.source.Source.{Source}
+use Rattle.field_origins.specs.Sources.{Origin, source, same_source, has, with_source, with_sources, either, merged, same_sources, same_origin, same_origins}
 use Rattle.origins.proofs.Among.{among_left, among_right}
 use Rattle.origins.proofs.Having.{From, Has}
 

@@ -11,8 +11,8 @@ use Rattle.semantics.specs.Query.{Name, Rel, Input, Let, Output, Program}
 use Rattle.semantics.specs.Typing as typing
 use Rattle.semantics.specs.Typing.{HasArity, InputsFit, after_inputs, OutputsFit, RestFits, WellTyped}
 use Rattle.semantics.proofs.NamesAmong.{Decides-same_name}
-use Rattle.origins.specs.declared.source.Source.{Source}
-use Rattle.origins.specs.Sources.{Origin, merged, origin_at, scalar_origin, agg_origin, columns_from}
+use Rattle.field_origins.specs.declared.source.Source.{Source}
+use Rattle.field_origins.specs.Sources.{Origin, merged, origin_at, scalar_origin, agg_origin, columns_from}
 use Rattle.origins.specs.Relations.{Scope, entry, lookup, rel_origins, inputs_scope, rest_origins, program_origins}
 use Rattle.origins.specs.Standing.{IsRecord, AreRecords, IsInColumn, Stands}
 use Rattle.origins.proofs.Having.{From, Has, Each, selected_has, paired_has, grouped_has, once_has, filter_has, append_has, left_has, both_has}

@@ -1,5 +1,7 @@
-pub mod Sources
 pub mod Relations
 pub mod Standing
-pub mod Shown
+pub mod Scopes
 pub mod Steps
+pub use Rattle.field_origins.specs.Sources
+pub use Rattle.field_origins.specs.Shown
+pub use Rattle.field_origins.specs.Loops

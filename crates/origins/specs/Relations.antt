@@ -1,8 +1,9 @@
 -- Where the values of the fields of relations and outputs come from.
 use Rattle.std.specs.Prelude.{ℕ, suc, cond, List, [], ◌∷◌, ◌++◌, map, length}
-use Rattle.semantics.specs.Meaning.{same_name, repeated}
+use Rattle.semantics.specs.Meaning.{same_name}
 use Rattle.semantics.specs.Query.{Name, Rel, Input, Let, Output, Program}
-use Rattle.origins.specs.Sources.{Origin, merged, origin_at, scalar_origin, agg_origin, columns_from, traced, same_origins}
+use Rattle.field_origins.specs.Sources.{Origin, merged, origin_at, scalar_origin, agg_origin, columns_from}
+use Rattle.field_origins.specs.Loops.{settled}
 
 -- a name in scope, with the origins of its fields
 pub record Entry : Type 0 where
@@ -21,19 +22,6 @@ lookup (e ∷ es) x = cond (same_name e.name x) e.origins (lookup es x)
 -- a name with its origins
 abbrev pub entry : Name → List Origin → Entry
 entry x os = record { name = x; origins = os }
-
--- of a loop's variable v after one more turn, by what a turn makes of v's fields
-abbrev pub turned : (v : ℕ) → (turn : List Origin) → List Origin → List Origin
-turned v turn os = merged os (map (traced v os) turn)
-
--- these, if one more turn adds nothing
-abbrev pub closed : (v : ℕ) → (turn : List Origin) → List Origin → List Origin
-closed v turn os = cond (same_origins (turned v turn os) os) os (map (λ o. Origin.computed) os)
-
--- Of a loop: those of its start, and what turns add. A turn only carries fields to fields, so what reaches a field does so in as many turns as there are
--- fields.
-abbrev pub settled : (v : ℕ) → (turn : List Origin) → (start : List Origin) → List Origin
-settled v turn start = closed v turn (repeated (turned v turn) (length start) start)
 
 -- of a loop, by what its body makes of the columns of an input v that stands for its variable
 abbrev pub looped : (v : ℕ) → (body : List Origin → List Origin) → (start : List Origin) → List Origin

@@ -5,7 +5,7 @@ use Rattle.std.specs.List.{AllByRecursion}
 use mir.Syntax.{w64}
 use Rattle.semantics.specs.Multiset.{Record, IsAmong}
 use Rattle.semantics.specs.Query.{Input}
-use Rattle.origins.specs.declared.source.Source.{Source}
+use Rattle.field_origins.specs.declared.source.Source.{Source}
 
 -- the record has that many fields, each a number within 64 bits
 pub record IsRecord (arity : ℕ) (r : Record) : Type 0 where

@@ -2,7 +2,7 @@
 use Rattle.std.specs.Prelude.{◌≡◌, ℕ, suc, List, [], ◌∷◌}
 use Rattle.semantics.specs.Query.{Name, Rel, Let, Output}
 use Rattle.origins.specs.Relations.{Scope, entry, rel_origins, rest_origins}
-use Rattle.origins.specs.Sources.{Origin}
+use Rattle.field_origins.specs.Sources.{Origin}
 
 -- what a loop's body makes of the origins of its variable x, which has the number v
 abbrev pub turn_origins : (body : Rel) → Name → Scope → (v : ℕ) → List Origin → List Origin

@@ -5,9 +5,9 @@ ghost use Rattle.semantics.specs.Multiset.{Record, IsAmong};
 ghost use Rattle.semantics.specs.Meaning.{program_meaning};
 ghost use Rattle.semantics.specs.Query.{Program};
 ghost use Rattle.semantics.specs.Typing.{WellTyped};
-ghost use Rattle.origins.specs.declared.source.Source.{Source};
+ghost use Rattle.field_origins.specs.declared.source.Source.{Source};
 ghost use Rattle.origins.specs.Relations.{program_origins};
-ghost use Rattle.origins.specs.Sources.{Origin};
+ghost use Rattle.field_origins.specs.Sources.{Origin};
 ghost use Rattle.origins.specs.Standing.{AreDifferent, AreRecords, Stands};
 
 /// Of a well-typed program: where a field of an output has sources, each record of the program's meaning there has a number in that field which stands in

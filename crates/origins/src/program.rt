@@ -5,14 +5,14 @@ ghost use Rattle.expr_tree.specs.Views.{let_tree, output_tree, program_tree};
 ghost use Rattle.expr_tree.specs.Plain.{plain_input, plain_let, plain_output, plain_program};
 ghost use Rattle.expr_tree.specs.PlainLists.{plain_lets, plain_outputs};
 ghost use Rattle.origins.specs.Relations as relations;
-ghost use Rattle.origins.specs.Shown.{origins, scope_of};
+ghost use Rattle.field_origins.specs.Shown.{origins};
+ghost use Rattle.origins.specs.Scopes.{scope_of};
 ghost use Rattle.origins.specs.Steps.{LeadsTo};
 
-use crate::fields::columns;
 use crate::relation::origins_of;
 use crate::scope::Scope;
-use crate::source::Origin;
 use expr_tree::{Input, Let, Output, Program};
+use field_origins::{Origin, columns};
 use std::alloc::{AllocError, Allocator, Global};
 
 /// Declares the inputs in order, from a number on.

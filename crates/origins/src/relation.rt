@@ -4,14 +4,13 @@ ghost use Rattle.std.specs.Prelude.{◌≡◌, IfOk, OnOk};
 ghost use Rattle.expr_tree.specs.Views.{rel_tree};
 ghost use Rattle.expr_tree.specs.Plain.{plain_rel};
 ghost use Rattle.origins.specs.Relations as relations;
-ghost use Rattle.origins.specs.Shown.{origins, scope_of};
+ghost use Rattle.field_origins.specs.Shown.{origins};
+ghost use Rattle.origins.specs.Scopes.{scope_of};
 ghost use Rattle.origins.specs.Steps.{turn_origins};
 
-use crate::fields::{columns, group_origins, joined, merged, select_origins};
-use crate::loops::settled;
 use crate::scope::Scope;
-use crate::source::Origin;
 use expr_tree::{Rel, SetOperator};
+use field_origins::{Origin, columns, group_origins, joined, merged, select_origins, settled};
 use record_core::Name;
 use std::alloc::{AllocError, Allocator, Global};
 

@@ -2,10 +2,10 @@
 
 ghost use Rattle.std.specs.Prelude.{◌≡◌, ◌∷◌, ◌++◌, [], drop, IfOk, OnOk};
 ghost use Rattle.origins.specs.Relations.{entry, lookup};
-ghost use Rattle.origins.specs.Shown.{origins, scope_of};
+ghost use Rattle.field_origins.specs.Shown.{origins};
+ghost use Rattle.origins.specs.Scopes.{entry_of, scope_of};
 
-use crate::fields::copied_fields;
-use crate::source::Origin;
+use field_origins::{Origin, copied_fields};
 use record_core::Name;
 use std::alloc::{AllocError, Global};
 use std::collections::VecDeque;
@@ -21,6 +21,18 @@ pub(crate) struct Known {
 #[derive(Drop)]
 pub(crate) struct Scope {
     names: VecDeque<Known>,
+}
+
+impl Known {
+    /// The name with the origins of its fields.
+    fn new(name: &Name, fields: Vec<Origin>) -> Known
+        ensures { entry_of result ≡ entry name.now (origins fields.items) }
+    {
+        Known {
+            name: name.copied(),
+            origins: fields,
+        }
+    }
 }
 
 impl Scope {
@@ -52,10 +64,8 @@ impl Scope {
     pub(crate) fn declare(&mut self, name: &Name, fields: Vec<Origin>) -> Result<(), AllocError>
         ensures { OnOk result (scope_of self.new ≡ entry name.now (origins fields.items) ∷ scope_of self.old) }
     {
-        self.names.push_front(Known {
-            name: name.copied(),
-            origins: fields,
-        })?;
+        let known = Known::new(name, fields);
+        self.names.push_front(known)?;
         Ok(())
     }
 
@@ -67,10 +77,7 @@ impl Scope {
     ) -> Result<(), AllocError>
         ensures { OnOk result (scope_of self.new ≡ scope_of self.old ++ entry name.now (origins fields.items) ∷ []) }
     {
-        self.names.push_back(Known {
-            name: name.copied(),
-            origins: fields,
-        })?;
+        self.names.push_back(Known::new(name, fields))?;
         Ok(())
     }
 

@@ -14,7 +14,7 @@ use Rattle.csv_cells.specs.declared.column.Column.{Column}
 use Rattle.csv_cells.specs.declared.column.Kind as cells
 use Rattle.csv_cells.specs.declared.column.Kind.TheVariants as cell
 use Rattle.kinds.specs.declared.kind.Kind.{Kind}
-use Rattle.origins.specs.declared.source.Source.{Source}
+use Rattle.field_origins.specs.declared.source.Source.{Source}
 use Rattle.origins.specs.Relations.{program_origins}
 use Rattle.origins.specs.Sources.{Origin}
 use Rattle.schema.specs.declared.tables.Table.{Table}

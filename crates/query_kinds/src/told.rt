@@ -1,7 +1,6 @@
 //! What is said of the columns at a place where a query is refused.
 
 use crate::fields::push_source;
-use crate::place::{Part, reading_at};
 use crate::tables::push_number;
 use expr_tree::Input;
 use itoa::Buffer;
@@ -10,6 +9,7 @@ use kinds::{Kind, Quantity};
 use origins::{Origin, program_origins};
 use parser::parse;
 use record_core::{Refusal, Span};
+use relations_read::{Part, reading_at};
 use schema::{Schema, Table};
 use schema_check::found_kinds;
 use std::alloc::{AllocError, Allocator, Global};

@@ -1,4 +1,4 @@
-//! The table of the refusals, in four parts: a part is as long as one proof can well compute with.
+//! The table of the refusals, in six parts: a part is as long as one proof can well compute with.
 
 ghost use Rattle.std.specs.Prelude.{◌≡◌, ◌==◌, option_map, IfSome};
 ghost use Rattle.std.specs.List.{find};
@@ -6,12 +6,12 @@ ghost use Rattle.std.specs.List.{find};
 /// What a refusal means. Texts are UTF-8; a sentence of `text` is a line.
 #[derive(Clone, Copy)]
 pub struct Explanation {
-    /// Its number: 1 to 25 of queries, 26 to 30 of queries by a schema, 31 to 40 of a schedule's steps, 41 to 47 of the lines of inputs, of which 43, 44 and 46 are of a
-    /// schedule's lines too.
+    /// Its number: 1 to 25 of queries, 26 to 30 of queries by a schema, 31 to 40 of a schedule's steps, 41 to 47 of the lines of inputs, of which
+    /// 43, 44 and 46 are of a schedule's lines too, 51 to 57 of the lines of schemas, 61 to 67 of CSV files and of answers that become one.
     pub code: u8,
     /// What is wrong, in a phrase.
     pub summary: &'static str,
-    /// What the place in the query covers. Empty where a refusal names a line: those of inputs and schedules do.
+    /// What the place in the query covers. Empty where a refusal names a line: those of all other texts do.
     pub place: &'static str,
     /// What it means and what helps, in one to three lines.
     pub text: &'static str,
@@ -23,7 +23,7 @@ pub struct Explanation {
 }
 
 /// The numbers that refusals have, in words.
-pub const NUMBERS: &str = "1 to 6 and 11 to 47";
+pub const NUMBERS: &str = "1 to 6, 11 to 47, 51 to 57 and 61 to 67";
 
 /// The refusals of a query, each code once, in ascending order.
 pub static OF_QUERIES: [Explanation; 21] = [
@@ -436,6 +436,133 @@ pub static OF_LINES: [Explanation; 7] = [
     },
 ];
 
+/// The refusals of schemas, each code once, in ascending order.
+pub static OF_SCHEMAS: [Explanation; 7] = [
+    Explanation {
+        code: 51,
+        summary: "no line of a schema",
+        place: "",
+        text: "Inputs come first, then outputs, then constants: `input sale`, `input sale by day`, `input customer every epoch`, `output out`, `constant home = \"Austria\"`.\n\
+            Under an input or output stands a line for each column: two spaces, its name in the header row, and the kind of its cells.\n\
+            Each line ends with a line feed, and there are no empty lines.",
+        wrong: "",
+        right: "",
+    },
+    Explanation {
+        code: 52,
+        summary: "no kind of cells",
+        place: "",
+        text: "The kinds are `int`, `decimal(1)` to `decimal(18)`, `date`, `time` and `text`.\n\
+            After a kind may stand ` or ` and what an empty cell stands for: `int or 0`, `text or \"\"`.",
+        wrong: "",
+        right: "",
+    },
+    Explanation {
+        code: 53,
+        summary: "an empty cell's value that is no cell of the column",
+        place: "",
+        text: "What stands after `or` is spelled as a cell of the column: `decimal(2) or 0.00`, `date or 1970-01-01`. Of a text it is `\"\"`.",
+        wrong: "",
+        right: "",
+    },
+    Explanation {
+        code: 54,
+        summary: "a name or a constant's text that is in use",
+        place: "",
+        text: "Inputs have different names, and so have outputs, constants, and the columns of one table. Two constants have different texts.",
+        wrong: "",
+        right: "",
+    },
+    Explanation {
+        code: 55,
+        summary: "a table with no column, or over 16",
+        place: "",
+        text: "The line of an input or output is followed by the lines of its 1 to 16 columns.",
+        wrong: "",
+        right: "",
+    },
+    Explanation {
+        code: 56,
+        summary: "`by` names no column, or one of texts",
+        place: "",
+        text: "After `by` stands the name of one of the input's columns, spelled as below it. Texts have no order, so none of them begins an epoch.",
+        wrong: "",
+        right: "",
+    },
+    Explanation {
+        code: 57,
+        summary: "an input whose epochs aren't said",
+        place: "",
+        text: "If an input has a `by`, each other one is `every epoch`: all its records are part of each epoch.\n\
+            Without a `by` all records are in one epoch, and no input is `every epoch`.",
+        wrong: "",
+        right: "",
+    },
+];
+
+/// The refusals of CSV files and of answers that become one, each code once, in ascending order.
+pub static OF_TABLES: [Explanation; 7] = [
+    Explanation {
+        code: 61,
+        summary: "the text isn't one of CSV",
+        place: "",
+        text: "Cells are separated by commas, and records end with LF or CRLF. A cell with a comma, a quote or a line break stands in quotes, and a quote in it is doubled.\n\
+            A quote that is never closed, one in a cell without quotes, more after a closing quote, a carriage return alone and an empty line are refused.",
+        wrong: "",
+        right: "",
+    },
+    Explanation {
+        code: 62,
+        summary: "another header row than the schema's",
+        place: "",
+        text: "The first row of a file has the names of the schema's columns, in its order and spelled as there.",
+        wrong: "",
+        right: "",
+    },
+    Explanation {
+        code: 63,
+        summary: "another number of cells than of columns",
+        place: "",
+        text: "Each record has a cell for each column of the schema. A comma in a cell needs quotes round the cell.",
+        wrong: "",
+        right: "",
+    },
+    Explanation {
+        code: 64,
+        summary: "a cell that is none of its column's kind",
+        place: "",
+        text: "An `int` is like `-7`, a `decimal(2)` like `-12.50`, a `date` like `2024-02-29`, a `time` like `09:42:19`, each in this one spelling.\n\
+            An empty cell is one only where the schema says so: `int or 0` takes it for 0, and then refuses the cell `0`.\n\
+            Of an answer: a number that stands for no such cell, or for no text of the dictionary.",
+        wrong: "",
+        right: "",
+    },
+    Explanation {
+        code: 65,
+        summary: "an epoch that comes too late",
+        place: "",
+        text: "The file of an input with a `by` is in the ascending order of that column: sort it first.",
+        wrong: "",
+        right: "",
+    },
+    Explanation {
+        code: 66,
+        summary: "a dictionary with a text twice, or two cells in a record",
+        place: "",
+        text: "A dictionary's file has the header `text`, and one text in each record, all different. `encode` and `run` write it.",
+        wrong: "",
+        right: "",
+    },
+    Explanation {
+        code: 67,
+        summary: "no line of this output's answer",
+        place: "",
+        text: "`decode` reads what `run` writes of a query with this one output: lines `epoch N`, and under each a number for each of the schema's columns.",
+        wrong: "",
+        right: "",
+    },
+];
+
 /// The first of the rows with this code. None exactly where no row has it.
 pub fn row_of(rows: &'static [Explanation], code: u8) -> Option<&'static Explanation>
     ensures row { option_map (λ e. e.now) result ≡ find (λ e. e.code == code) rows.entry.now }
@@ -472,6 +599,20 @@ fn of_line(code: u8) -> Option<&'static Explanation>
     row_of(&OF_LINES, code)
 }
 
+/// The row of a schema's refusal.
+fn of_schema(code: u8) -> Option<&'static Explanation>
+    ensures { IfSome result (λ e. e.now.code ≡ code) }
+{
+    row_of(&OF_SCHEMAS, code)
+}
+
+/// The row of the refusal of a CSV file or an answer.
+fn of_table(code: u8) -> Option<&'static Explanation>
+    ensures { IfSome result (λ e. e.now.code ≡ code) }
+{
+    row_of(&OF_TABLES, code)
+}
+
 /// The table's row of a code: what `row_of` finds in its part of the table, which no clause can name.
 pub fn explanation_of(code: u8) -> Option<&'static Explanation>
     ensures { IfSome result (λ e. e.now.code ≡ code) }
@@ -480,6 +621,8 @@ pub fn explanation_of(code: u8) -> Option<&'static Explanation>
         0..=25 => of_query(code),
         26..=30 => of_kind(code),
         31..=40 => of_step(code),
-        41..=255 => of_line(code),
+        41..=50 => of_line(code),
+        51..=60 => of_schema(code),
+        61..=255 => of_table(code),
     }
 }

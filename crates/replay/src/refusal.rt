@@ -9,7 +9,7 @@ use rows::WorkFault;
 use thiserror::Error;
 
 /// Why a line does nothing.
-#[derive(Clone, Copy, Debug, PartialEq, Eq, Error)]
+#[derive(Clone, Copy, Debug, Error)]
 pub enum Refusal {
     /// A refusal with this code: the board refuses the step, or there is no such input, or a count would be too large.
     #[error("refused {code}", code = Number(u64::from(*.code)))]

@@ -4,7 +4,7 @@
 //! is fed, as the engine cuts it; it gives both as lines, or in a drawing. The lines have the counters' numbers; of what is fed, and of messages and
 //! epochs, no clause says that the numbers are right.
 //!
-//! Built on `driver`, `collector`, `graph_text` and the crates below them; `console` writes the text.
+//! Built on `driver`, `collector`, `graph_text` and the crates below them; `commands` writes the text.
 #![tactic(auto)]
 
 mod fed;

@@ -1,8 +1,11 @@
 //! A line of words, answered.
 
-ghost use Rattle.std.specs.Prelude.{◌≡◌, ◌<◌, ◌↔◌, ◌⊎◌, IfErr, IsTrue, codes, map, true};
+ghost use Rattle.std.specs.Prelude.{◌≡◌, ◌<◌, ◌↔◌, ◌⊎◌, IfErr, IsTrue, OnOk, codes, map, true};
 ghost use Rattle.collector.specs.Watching.{inner_of};
+ghost use Rattle.table_commands.specs.Done.{IsDone};
 ghost use Rattle.table_commands.specs.Written.{IsOfTables, IsTablesWord, IsWriteFault};
+ghost use Rattle.table_words.specs.Line.{Asks};
+ghost use Rattle.table_words.specs.declared.line.Asked.{Asked};
 
 use crate::decoding::decode_answer;
 use crate::encoding::{Encoding, encode_files};
@@ -46,7 +49,8 @@ fn obey<'a, S: Sources<'a>, D: Drafts, W: Write>(
     asked: &Asked<'a>,
     out: &mut Watched<W>,
 ) -> Result<(), Fault<'a>>
-    ensures { IfErr result (λ fault. IsWriteFault fault ⊎ (W.contents (inner_of out.new) ≡ W.contents (inner_of out.old))) }
+    ensures written { OnOk result (IsDone (S.content sources.now) asked.now (W.contents (inner_of out.old)) (W.contents (inner_of out.new))) }
+    ensures fault { IfErr result (λ fault. IsWriteFault fault ⊎ (W.contents (inner_of out.new) ≡ W.contents (inner_of out.old))) }
 {
     match asked {
         Asked::Encode {
@@ -104,7 +108,8 @@ fn answer<'a, S: Sources<'a>, D: Drafts, W: Write, E: Write>(
     out: &mut Watched<W>,
     err: &mut E,
 ) -> u8
-    ensures { ((result ≡ 0) ⊎ (result ≡ 6)) ⊎ (W.contents (inner_of out.new) ≡ W.contents (inner_of out.old)) }
+    ensures written { result ≡ 0 → IsDone (S.content sources.now) asked.now (W.contents (inner_of out.old)) (W.contents (inner_of out.new)) }
+    ensures quiet { ((result ≡ 0) ⊎ (result ≡ 6)) ⊎ (W.contents (inner_of out.new) ≡ W.contents (inner_of out.old)) }
 {
     match obey(alloc, sources, drafts, asked, out) {
         Ok(()) => 0,
@@ -122,7 +127,9 @@ pub fn answer_tables<'a, S: Sources<'a>, D: Drafts, W: Write, E: Write>(
     out: &mut Watched<W>,
     err: &mut E,
 ) -> u8
-    ensures { ((result ≡ 0) ⊎ (result ≡ 6)) ⊎ (W.contents (inner_of out.new) ≡ W.contents (inner_of out.old)) }
+    ensures written { result ≡ 0 → (asked : Asked) × Asks (map (λ s. s.now) words.entry.now) asked
+        × IsDone (S.content sources.now) asked (W.contents (inner_of out.old)) (W.contents (inner_of out.new)) }
+    ensures quiet { ((result ≡ 0) ⊎ (result ≡ 6)) ⊎ (W.contents (inner_of out.new) ≡ W.contents (inner_of out.old)) }
 {
     let asked = match read_words(alloc, words) {
         Ok(Some(asked)) => asked,

@@ -1,8 +1,11 @@
 //! The command `decode`.
 
-ghost use Rattle.std.specs.Prelude.{◌≡◌, ◌⊎◌, Contains, IfErr, IfSome, option_map};
+ghost use Rattle.std.specs.Prelude.{◌≡◌, ◌⊎◌, Contains, IfErr, IfOk, IfSome, OnOk, option_map};
 ghost use Rattle.collector.specs.Watching.{inner_of};
-ghost use Rattle.table_commands.specs.Read.{IsOutput};
+ghost use Rattle.csv_cells.specs.Texts.{texts_of};
+ghost use Rattle.schema.specs.declared.tables.Schema.{Schema};
+ghost use Rattle.table_commands.specs.Done.{AreKnownBy, HasDecoded, IsDecodedBy};
+ghost use Rattle.table_commands.specs.Read.{IsOutput, IsReadSchema};
 ghost use Rattle.table_commands.specs.Written.{IsWriteFault};
 
 use collector::{Sources, Watched};
@@ -46,7 +49,9 @@ fn known_texts<'a, S: Sources<'a>>(
     sources: &S,
     schema: &Schema,
     name: Option<&'a str>,
-) -> Result<Dictionary, Fault<'a>> {
+) -> Result<Dictionary, Fault<'a>>
+    ensures { IfOk result (λ texts. AreKnownBy (S.content sources.now) (option_map (λ s. s.now) name.entry) (texts_of texts)) }
+{
     match name {
         Some(name) => dictionary_of(alloc, sources, name, false),
         None if needs_dictionary(schema) => Err(Fault::Words(WordFault::NoDictionary)),
@@ -60,7 +65,10 @@ fn decoded_by<'a, S: Sources<'a>>(
     sources: &S,
     schema: &Schema,
     asked: Decoding<'a>,
-) -> Result<Vec<u8>, Fault<'a>> {
+) -> Result<Vec<u8>, Fault<'a>>
+    ensures { IfOk result (λ file. IsDecodedBy (S.content sources.now) schema.now asked.entry.answer.now (option_map (λ s. s.now) asked.entry.dictionary)
+        (option_map (λ s. s.now) asked.entry.output) file.items) }
+{
     let Some(table) = output_of(schema, asked.output) else {
         return Err(Fault::Words(WordFault::NoOutput));
     };
@@ -74,10 +82,7 @@ fn decoded_by<'a, S: Sources<'a>>(
         answer.as_slice(),
     ) {
         Ok(text) => Ok(text),
-        Err(refusal) => {
-            let headers = table.headers.as_slice();
-            Err(table_fault(alloc, asked.answer, headers, refusal))
-        }
+        Err(refusal) => Err(table_fault(alloc, asked.answer, table, refusal)),
     }
 }
 
@@ -86,7 +91,11 @@ fn decoded<'a, S: Sources<'a>>(
     alloc: Global,
     sources: &S,
     asked: Decoding<'a>,
-) -> Result<Vec<u8>, Fault<'a>> {
+) -> Result<Vec<u8>, Fault<'a>>
+    ensures { IfOk result (λ file. (schema : Schema) × IsReadSchema (S.content sources.now asked.entry.schema.now) schema
+        × IsDecodedBy (S.content sources.now) schema asked.entry.answer.now (option_map (λ s. s.now) asked.entry.dictionary)
+        (option_map (λ s. s.now) asked.entry.output) file.items) }
+{
     if asked.schema == "-" && asked.answer == "-" {
         return Err(Fault::Words(WordFault::InputTwice));
     }
@@ -101,7 +110,10 @@ pub fn decode_answer<'a, S: Sources<'a>, W: Write>(
     asked: Decoding<'a>,
     out: &mut Watched<W>,
 ) -> Result<(), Fault<'a>>
-    ensures { IfErr result (λ fault. IsWriteFault fault ⊎ (W.contents (inner_of out.new) ≡ W.contents (inner_of out.old))) }
+    ensures written { OnOk result (HasDecoded (S.content sources.now) asked.entry.schema.now asked.entry.answer.now
+        (option_map (λ s. s.now) asked.entry.dictionary) (option_map (λ s. s.now) asked.entry.output) (W.contents (inner_of out.old))
+        (W.contents (inner_of out.new))) }
+    ensures fault { IfErr result (λ fault. IsWriteFault fault ⊎ (W.contents (inner_of out.new) ≡ W.contents (inner_of out.old))) }
 {
     let text = decoded(alloc, sources, asked)?;
     write_text(text.as_slice(), out)

@@ -1,10 +1,12 @@
 //! The command `encode`.
 
-ghost use Rattle.std.specs.Prelude.{◌≡◌, ◌⊎◌, IfErr, IfOk, map};
+ghost use Rattle.std.specs.Prelude.{◌≡◌, ◌⊎◌, IfErr, IfOk, None, OnOk, Some, map, option_map};
 ghost use Rattle.collector.specs.Watching.{inner_of};
 ghost use Rattle.csv_cells.specs.Texts.{texts_of};
-ghost use Rattle.table_commands.specs.Read.{IsInputOf};
+ghost use Rattle.table_commands.specs.Done.{HasEncoded, IsEncodedBy, WritesInput};
+ghost use Rattle.table_commands.specs.Read.{IsInputOf, IsReadSchema};
 ghost use Rattle.table_commands.specs.Written.{IsWriteFault};
+ghost use Rattle.tables.specs.Inputs.{AreNumbered};
 
 use collector::{Sources, Watched};
 use csv_cells::Dictionary;
@@ -33,7 +35,8 @@ pub fn input_text<'a, S: Sources<'a>>(
     paths: &[&'a str],
     dictionary: &mut Dictionary,
 ) -> Result<Vec<u8>, Fault<'a>>
-    ensures { IfOk result (λ out. IsInputOf (S.content sources.now) schema.now (map (λ s. s.now) paths.now) (texts_of dictionary.new) out.items) }
+    ensures input { IfOk result (λ out. IsInputOf (S.content sources.now) schema.now (map (λ s. s.now) paths.now) (texts_of dictionary.new) out.items) }
+    ensures numbered { OnOk result (AreNumbered schema.now.constants.items (texts_of dictionary.old) (texts_of dictionary.new)) }
 {
     let texts = read_files(alloc, sources, paths)?;
     let refused = match encode(alloc, schema, dictionary, texts.as_slice()) {
@@ -42,10 +45,7 @@ pub fn input_text<'a, S: Sources<'a>>(
     };
     let path = paths.get(refused.file).copied().unwrap_or("");
     match schema.inputs.get(refused.file) {
-        Some(table) => {
-            let headers = table.headers.as_slice();
-            Err(table_fault(alloc, path, headers, refused.refusal))
-        }
+        Some(table) => Err(table_fault(alloc, path, table, refused.refusal)),
         None => Err(Fault::NoMemory),
     }
 }
@@ -57,7 +57,9 @@ fn encoded_with<'a, S: Sources<'a>>(
     schema: &Schema,
     paths: &[&'a str],
     name: &'a str,
-) -> Result<(Vec<u8>, Option<Vec<u8>>), Fault<'a>> {
+) -> Result<(Vec<u8>, Option<Vec<u8>>), Fault<'a>>
+    ensures { IfOk result (λ made. IsEncodedBy (S.content sources.now) schema.now (map (λ s. s.now) paths.now) (Some name.now) made.0.items) }
+{
     let mut dictionary = dictionary_of(alloc, sources, name, true)?;
     let count = dictionary.len();
     let text = input_text(alloc, sources, schema, paths, &mut dictionary)?;
@@ -75,7 +77,9 @@ fn encode_with<'a, S: Sources<'a>, D: Drafts, W: Write>(
     name: &'a str,
     out: &mut Watched<W>,
 ) -> Result<(), Fault<'a>>
-    ensures { IfErr result (λ fault. IsWriteFault fault ⊎ (W.contents (inner_of out.new) ≡ W.contents (inner_of out.old))) }
+    ensures written { OnOk result (WritesInput (S.content sources.now) schema.now (map (λ s. s.now) paths.now) (Some name.now)
+        (W.contents (inner_of out.old)) (W.contents (inner_of out.new))) }
+    ensures fault { IfErr result (λ fault. IsWriteFault fault ⊎ (W.contents (inner_of out.new) ≡ W.contents (inner_of out.old))) }
 {
     let draft = begin_dictionary(drafts, name)?;
     match encoded_with(alloc, sources, schema, paths, name) {
@@ -95,7 +99,9 @@ fn encode_without<'a, S: Sources<'a>, W: Write>(
     paths: &[&'a str],
     out: &mut Watched<W>,
 ) -> Result<(), Fault<'a>>
-    ensures { IfErr result (λ fault. IsWriteFault fault ⊎ (W.contents (inner_of out.new) ≡ W.contents (inner_of out.old))) }
+    ensures written { OnOk result (WritesInput (S.content sources.now) schema.now (map (λ s. s.now) paths.now) None
+        (W.contents (inner_of out.old)) (W.contents (inner_of out.new))) }
+    ensures fault { IfErr result (λ fault. IsWriteFault fault ⊎ (W.contents (inner_of out.new) ≡ W.contents (inner_of out.old))) }
 {
     if needs_dictionary(schema) {
         return Err(Fault::Words(WordFault::NoDictionary));
@@ -105,7 +111,7 @@ fn encode_without<'a, S: Sources<'a>, W: Write>(
     write_text(text.as_slice(), out)
 }
 
-/// Encodes by a schema.
+/// Encodes by the schema that was read.
 fn encode_by<'a, S: Sources<'a>, D: Drafts, W: Write>(
     alloc: Global,
     sources: &S,
@@ -114,7 +120,10 @@ fn encode_by<'a, S: Sources<'a>, D: Drafts, W: Write>(
     asked: Encoding<'a, '_>,
     out: &mut Watched<W>,
 ) -> Result<(), Fault<'a>>
-    ensures { IfErr result (λ fault. IsWriteFault fault ⊎ (W.contents (inner_of out.new) ≡ W.contents (inner_of out.old))) }
+    requires read { IsReadSchema (S.content sources.now asked.schema.now) schema.now }
+    ensures written { OnOk result (HasEncoded (S.content sources.now) asked.entry.schema.now (map (λ s. s.now) asked.entry.files.now) (option_map (λ s. s.now) asked.entry.dictionary)
+        (W.contents (inner_of out.old)) (W.contents (inner_of out.new))) }
+    ensures fault { IfErr result (λ fault. IsWriteFault fault ⊎ (W.contents (inner_of out.new) ≡ W.contents (inner_of out.old))) }
 {
     let paths = paths_of(alloc, schema, asked.files)?;
     if is_input_twice(&[asked.schema], paths.as_slice()) {
@@ -135,7 +144,9 @@ pub fn encode_files<'a, S: Sources<'a>, D: Drafts, W: Write>(
     asked: Encoding<'a, '_>,
     out: &mut Watched<W>,
 ) -> Result<(), Fault<'a>>
-    ensures { IfErr result (λ fault. IsWriteFault fault ⊎ (W.contents (inner_of out.new) ≡ W.contents (inner_of out.old))) }
+    ensures written { OnOk result (HasEncoded (S.content sources.now) asked.entry.schema.now (map (λ s. s.now) asked.entry.files.now) (option_map (λ s. s.now) asked.entry.dictionary)
+        (W.contents (inner_of out.old)) (W.contents (inner_of out.new))) }
+    ensures fault { IfErr result (λ fault. IsWriteFault fault ⊎ (W.contents (inner_of out.new) ≡ W.contents (inner_of out.old))) }
 {
     let schema = schema_of(alloc, sources, asked.schema)?;
     encode_by(alloc, sources, drafts, &schema, asked, out)

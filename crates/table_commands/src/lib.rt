@@ -16,4 +16,3 @@ pub use table_files::{
     DiskDrafts, Draft, Drafts, Fault, WordFault, begin_dictionary, dictionary_of, grown_text,
     is_input_twice, keep_dictionary, paths_of, read_file, schema_of, table_fault, write_with,
 };
-pub use table_words::{LineError, dictionary_arg, files_arg, output_arg};

@@ -1,5 +1,5 @@
 -- Lists of texts and of paths, one more at their end.
-use Rattle.std.proofs.Common.{◌≡◌, ◌++◌, ℕ, List, [], ◌∷◌, Option, length, refl, ap, arith}
+use Rattle.std.proofs.Common.{◌++◌, ℕ, List, [], ◌∷◌, Option, length, refl, ap, arith}
 use Rattle.std.specs.Prelude.{Contains}
 use Rattle.schema.specs.declared.tables.Table.{Table}
 use Rattle.table_files.specs.Read.{AreNamed, AreTexts, IsKnownAs}

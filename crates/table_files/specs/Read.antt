@@ -1,8 +1,9 @@
 -- What is read of the texts of a command.
-use Rattle.std.specs.Prelude.{◌≡◌, ℕ, List, [], ◌∷◌, ◌++◌, Contains, Option, IfSome}
+use Rattle.std.specs.Prelude.{◌≡◌, ◌⊎◌, ℕ, List, [], ◌∷◌, ◌++◌, Bool, true, false, Contains, Option, IfSome}
 use Rattle.schema.specs.Text.{IsSchemaText}
 use Rattle.schema.specs.declared.tables.Schema.{Schema}
 use Rattle.schema.specs.declared.tables.Table.{Table}
+use Rattle.tables.specs.Tables.{IsReadDictionary}
 
 -- these are the bytes of a text, where they are known
 abbrev pub IsKnownAs : (known : Option (List ℕ)) → (bytes : List ℕ) → Type 0
@@ -17,6 +18,15 @@ AreTexts known (name ∷ names) (text ∷ texts) = IsKnownAs (known name) text �
 -- this is the schema of a text
 abbrev pub IsReadSchema : (known : Option (List ℕ)) → Schema → Type 0
 IsReadSchema known schema = (text : List ℕ) × IsKnownAs known text × IsSchemaText schema text
+
+-- these are the texts of a dictionary's file
+abbrev pub IsDictionaryOf : (known : Option (List ℕ)) → (texts : List (List ℕ)) → Type 0
+IsDictionaryOf known texts = (file : List ℕ) × IsKnownAs known file × IsReadDictionary file texts
+
+-- the same; or none, where a dictionary may begin
+abbrev pub IsOpenedAs : (may_begin : Bool) → (known : Option (List ℕ)) → (texts : List (List ℕ)) → Type 0
+IsOpenedAs false known texts = IsDictionaryOf known texts
+IsOpenedAs true known texts = IsDictionaryOf known texts ⊎ (texts ≡ [])
 
 -- each table's file is that of a word `NAME=FILE`
 unfoldable pub AreNamed : (tables : List Table) → (words paths : List (List ℕ)) → Type 0

@@ -3,9 +3,10 @@
 ghost use Rattle.std.specs.Prelude.{◌≡◌, ◌<◌};
 ghost use Rattle.table_files.specs.Written.{IsWriteFault};
 
+use csv_cells::{Column, Empty, Kind};
 use record_core::Span;
 use refusals::explanation_of;
-use schema::SchemaRefusal;
+use schema::{SchemaRefusal, Table};
 use std::alloc::{AllocError, AllocFailed, Global};
 use std::io;
 use std::io::Write;
@@ -26,8 +27,18 @@ pub enum Fault<'a> {
     Schema(schema::Fault, u64),
     /// The number of a query's refusal, and its place.
     Query(u8, Span),
-    /// The file's path, what is wrong, the line, and the name of the column if it is of a cell.
-    Table(&'a str, TableFault, u64, Option<Vec<u8>>),
+    /// The file's path, what is wrong, the line, and what else is told.
+    Table(&'a str, TableFault, u64, Detail),
+}
+
+/// What the line of a file's fault tells beside its number.
+#[derive(Drop)]
+pub enum Detail {
+    None,
+    /// Of a cell: the name of its column in the header row, and how the column is read.
+    Cell(Vec<u8>, Column),
+    /// Of a header row: the one that the file should have.
+    Header(Vec<u8>),
 }
 
 /// What is wrong with the words of a line.
@@ -65,33 +76,62 @@ pub fn schema_fault<'a>(refusal: SchemaRefusal) -> Fault<'a> {
     }
 }
 
-/// The column, from 0, that a fault is about.
-fn column_of(fault: TableFault) -> Option<usize> {
-    match fault {
-        TableFault::Cell(place) | TableFault::Order(place) => Some(place),
-        _ => None,
+/// The header row of a table, without quotes.
+fn header_row(alloc: Global, names: &[Vec<u8>]) -> Result<Vec<u8>, AllocError> {
+    let mut row = Vec::new(alloc);
+    for name in names {
+        if !row.is_empty() {
+            row.push(b',')?;
+        }
+        row.extend_from_slice(name.as_slice())?;
     }
+    Ok(row)
 }
 
-/// The fault of a file that is refused, whose columns have these names.
+/// What is told of a fault of a table's file.
+fn detail_of(alloc: Global, table: &Table, fault: TableFault) -> Result<Detail, AllocError> {
+    if let TableFault::Header = fault {
+        return Ok(Detail::Header(header_row(alloc, table.headers.as_slice())?));
+    }
+    let (TableFault::Cell(place) | TableFault::Order(place)) = fault else {
+        return Ok(Detail::None);
+    };
+    let (Some(header), Some(column)) = (table.headers.get(place), table.columns.get(place)) else {
+        return Ok(Detail::None);
+    };
+    Ok(Detail::Cell(Vec::from_slice(alloc, header.as_slice())?, *column))
+}
+
+/// The fault of a table's file that is refused.
 pub fn table_fault<'a>(
     alloc: Global,
     path: &'a str,
-    headers: &[Vec<u8>],
+    table: &Table,
     refusal: TableRefusal,
 ) -> Fault<'a> {
     let TableRefusal::At { fault, line } = refusal else {
         return Fault::NoMemory;
     };
-    let Some(place) = column_of(fault) else {
-        return Fault::Table(path, fault, line, None);
+    match detail_of(alloc, table, fault) {
+        Ok(detail) => Fault::Table(path, fault, line, detail),
+        Err(_) => Fault::NoMemory,
+    }
+}
+
+/// The fault of a dictionary's file that is refused.
+pub(crate) fn dictionary_fault<'a>(
+    alloc: Global,
+    path: &'a str,
+    refusal: TableRefusal,
+) -> Fault<'a> {
+    let TableRefusal::At { fault, line } = refusal else {
+        return Fault::NoMemory;
     };
-    let name = match headers.get(place) {
-        Some(header) => header.as_slice(),
-        None => b"",
+    let TableFault::Header = fault else {
+        return Fault::Table(path, fault, line, Detail::None);
     };
-    match Vec::from_slice(alloc, name) {
-        Ok(name) => Fault::Table(path, fault, line, Some(name)),
+    match Vec::from_slice(alloc, b"text") {
+        Ok(row) => Fault::Table(path, fault, line, Detail::Header(row)),
         Err(_) => Fault::NoMemory,
     }
 }
@@ -110,7 +150,7 @@ fn told(fault: TableFault) -> (u8, &'static str) {
             (61, "a carriage return that ends no line")
         }
         TableFault::Text(csv_strict::Fault::Unclosed) => (61, "a quote that is never closed"),
-        TableFault::Header => (62, "another header row than the schema's"),
+        TableFault::Header => (62, "another header row"),
         TableFault::Length => (63, "another number of cells than of columns"),
         TableFault::Cell(_) => (64, "no cell of its column"),
         TableFault::Order(_) => (65, "an epoch that comes too late"),
@@ -150,7 +190,7 @@ fn write_words<W: Write>(fault: WordFault<'_>, out: &mut W) -> io::Result<()> {
     }
 }
 
-/// A column's name as it is shown: what is no letter, digit or sign of ASCII as `?`.
+/// A name, or a header row, as it is shown: what is no letter, digit or sign of ASCII as `?`.
 fn write_name<W: Write>(name: &[u8], out: &mut W) -> io::Result<()> {
     for byte in name {
         let shown = if matches!(*byte, b' '..=b'~') {
@@ -176,21 +216,47 @@ fn write_query<W: Write>(code: u8, span: Span, out: &mut W) -> io::Result<()> {
     }
 }
 
+/// Writes that a cell is none of its column's.
+fn write_no_cell<W: Write>(column: Column, out: &mut W) -> io::Result<()> {
+    match column.kind {
+        Kind::Int => write!(out, ": no int")?,
+        Kind::Decimal(digits) => write!(out, ": no decimal({digits})")?,
+        Kind::Date => write!(out, ": no date")?,
+        Kind::Time => write!(out, ": no time")?,
+        Kind::Text => write!(out, ": no text")?,
+    }
+    match column.empty {
+        Empty::Number(_) => writeln!(out, ", or the one that is left empty"),
+        Empty::Refused | Empty::Kept => writeln!(out, ""),
+    }
+}
+
 /// Writes the line of a fault of a file.
 fn write_table<W: Write>(
     path: &str,
     fault: TableFault,
     line: u64,
-    column: Option<&[u8]>,
+    detail: &Detail,
     out: &mut W,
 ) -> io::Result<()> {
     let (code, phrase) = told(fault);
     write!(out, "{path} refused {code} at line {line}")?;
-    if let Some(name) = column {
-        write!(out, ", column ")?;
-        write_name(name, out)?;
+    match detail {
+        Detail::None => writeln!(out, ": {phrase}"),
+        Detail::Cell(name, column) => {
+            write!(out, ", column ")?;
+            write_name(name.as_slice(), out)?;
+            match fault {
+                TableFault::Cell(_) => write_no_cell(*column, out),
+                _ => writeln!(out, ": {phrase}"),
+            }
+        }
+        Detail::Header(row) => {
+            write!(out, ": the header row isn't ")?;
+            write_name(row.as_slice(), out)?;
+            writeln!(out, "")
+        }
     }
-    writeln!(out, ": {phrase}")
 }
 
 impl Fault<'_> {
@@ -227,10 +293,9 @@ impl Fault<'_> {
                 writeln!(out, "schema refused {code} at line {line}: {fault}")
             }
             Fault::Query(code, span) => write_query(*code, *span, out),
-            Fault::Table(path, fault, line, column) => match column {
-                Some(name) => write_table(path, *fault, *line, Some(name.as_slice()), out),
-                None => write_table(path, *fault, *line, None, out),
-            },
+            Fault::Table(path, fault, line, detail) => {
+                write_table(path, *fault, *line, detail, out)
+            }
         }
     }
 }

@@ -2,9 +2,11 @@
 
 ghost use Rattle.std.specs.Prelude.{◌≡◌, ◌++◌, ◌∷◌, Contains, IfOk, IfSome, map};
 ghost use Rattle.collector.specs.Watching.{inner_of};
-ghost use Rattle.table_files.specs.Read.{AreNamed, AreTexts, IsKnownAs, IsReadSchema};
+ghost use Rattle.csv_cells.specs.Texts.{texts_of};
+ghost use Rattle.table_files.specs.Read.{AreNamed, AreTexts, IsKnownAs, IsOpenedAs, IsReadSchema};
+ghost use Rattle.tables.specs.Tables.{IsReadDictionary};
 
-use crate::fault::{Fault, WordFault, schema_fault, table_fault};
+use crate::fault::{Fault, WordFault, dictionary_fault, schema_fault};
 use collector::{ReadFault, Sources, Watched, open_named, read_all};
 use csv_cells::{Column, Dictionary, Kind};
 use schema::{Schema, Table, read_schema};
@@ -84,10 +86,12 @@ fn dictionary_of_text<'a>(
     alloc: Global,
     path: &'a str,
     text: &[u8],
-) -> Result<Dictionary, Fault<'a>> {
+) -> Result<Dictionary, Fault<'a>>
+    ensures { IfOk result (λ dictionary. IsReadDictionary text.now (texts_of dictionary)) }
+{
     match read_dictionary(alloc, text) {
         Ok(dictionary) => Ok(dictionary),
-        Err(refusal) => Err(table_fault(alloc, path, &[], refusal)),
+        Err(refusal) => Err(dictionary_fault(alloc, path, refusal)),
     }
 }
 
@@ -97,7 +101,9 @@ pub fn dictionary_of<'a, S: Sources<'a>>(
     sources: &S,
     path: &'a str,
     may_begin: bool,
-) -> Result<Dictionary, Fault<'a>> {
+) -> Result<Dictionary, Fault<'a>>
+    ensures { IfOk result (λ dictionary. IsOpenedAs may_begin (S.content sources.now path.now) (texts_of dictionary)) }
+{
     let mut opened = open_named(sources, path);
     match read_all(alloc, &mut opened.text) {
         Ok(text) => dictionary_of_text(alloc, path, text.as_slice()),

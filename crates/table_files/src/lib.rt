@@ -8,7 +8,7 @@ mod keeping;
 mod writing;
 
 pub use drafts::{DiskDrafts, Draft, Drafts};
-pub use fault::{Fault, WordFault, table_fault};
+pub use fault::{Detail, Fault, WordFault, table_fault};
 pub use files::{
     dictionary_of, is_input_twice, needs_dictionary, paths_of, read_file, read_files, schema_of,
 };

@@ -1,6 +1,8 @@
 //! Writes a whole text.
 
-ghost use Rattle.std.specs.Prelude.{IfErr};
+ghost use Rattle.std.specs.Prelude.{IfErr, OnOk};
+ghost use Rattle.std.specs.Io.KnownBytes.{Appends};
+ghost use Rattle.collector.specs.Watching.{inner_of};
 ghost use Rattle.table_files.specs.Written.{IsWriteFault};
 
 use crate::fault::Fault;
@@ -9,7 +11,8 @@ use std::io::Write;
 
 /// Writes a text.
 pub fn write_text<'a, W: Write>(text: &[u8], out: &mut Watched<W>) -> Result<(), Fault<'a>>
-    ensures { IfErr result IsWriteFault }
+    ensures written { OnOk result (Appends (W.contents (inner_of out.old)) (W.contents (inner_of out.new)) text.now) }
+    ensures fault { IfErr result IsWriteFault }
 {
     match put(out, text) {
         Ok(()) => Ok(()),

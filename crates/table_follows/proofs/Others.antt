@@ -1,21 +1,10 @@
--- The texts of files, one of them left out; and the value of an epoch.
-use Rattle.std.proofs.Common.{◌≡◌, ◌≢◌, ◌++◌, ℕ, ℤ, Bool, zero, suc, List, [], ◌∷◌, Option, None, Some, length, set, refl, sym, ap}
-use Rattle.std.specs.Prelude.{IfSome}
-use Rattle.std.proofs.lemmas.List.{append-nil}
-use Rattle.console.specs.Asked.{Known}
-use Rattle.csv_cells.specs.Cells.{IsOnly, StandsAs}
-use Rattle.csv_cells.specs.Texts.{Grows}
-use Rattle.csv_cells.specs.declared.column.Column.{Column}
+-- The texts of files, one of them left out.
+use Rattle.std.proofs.Common.{◌≡◌, ◌≢◌, ◌++◌, ℕ, Bool, zero, suc, List, [], ◌∷◌, length, set, refl}
+use Rattle.table_commands.specs.Done.{Known}
 use Rattle.schema.specs.declared.tables.Table.{Table}
 use Rattle.table_files.specs.Read.{AreTexts, IsKnownAs}
 use Rattle.tables.specs.Answers.{AreDecoded, AreLines, AreRows, Where, outside}
-use Rattle.table_follows.specs.Followed.{AreOthers, IsValue}
-
--- the text at a place is put there twice
-pub set-set : (texts : List (List ℕ)) (i : ℕ) (a b : List ℕ) → set (set texts i a) i b ≡ set texts i b
-set-set [] i a b = refl
-set-set (t ∷ texts) zero a b = refl
-set-set (t ∷ texts) (suc i) a b = ap (λ (ts : List (List ℕ)). t ∷ ts) (set-set texts i a b)
+use Rattle.table_follows.specs.Followed.{AreOthers}
 
 -- one more text
 texts-push : (known : Known) (names texts : List (List ℕ)) (name text : List ℕ) → AreTexts known names texts → IsKnownAs (known name) text
@@ -51,16 +40,6 @@ others-set known zero (n ∷ names) [] text bad = absurd bad
 others-set known (suc place) (n ∷ names) [] text bad = absurd bad
 others-set known zero (n ∷ names) (f ∷ files) text more = more
 others-set known (suc place) (n ∷ names) (f ∷ files) text (first, more) = (first, others-set known place names files text more)
-
--- the number of a cell
-pub is-value : (column : Column) (texts : List (List ℕ)) (cell : List ℕ) (o : Option ℤ) → IfSome o (λ z. StandsAs column texts z cell)
-    → IsOnly column texts cell o
-    → IsValue column texts (Some cell) o
-is-value column texts cell None found only = only
-is-value column texts cell (Some z) found only = found
-
-pub grows-none : (texts : List (List ℕ)) → Grows texts texts
-grows-none texts = ([], sym (append-nil texts))
 
 no-rows : (table : Table) (with_epochs : Bool) (texts : List (List ℕ)) (rows : List (List (List ℕ))) (last : Where) (lines : List (List ℕ))
     → AreLines [] lines

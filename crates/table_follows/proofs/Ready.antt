@@ -1,13 +1,15 @@
 -- From what was followed to what the line's files are.
 use Rattle.std.proofs.Common.{[], ℕ, List, Option, get_or, map, inr, subst}
-use Rattle.console.specs.Asked.{Known}
+use Rattle.table_commands.specs.Done.{Known}
 use Rattle.schema.specs.declared.tables.Schema.{Schema}
 use Rattle.schema.specs.declared.tables.Table.{Table}
-use Rattle.table_runs.specs.declared.fault.RunFault.{RunFault}
-use Rattle.table_follows.specs.Followed.{FailsFile, FailsText, FollowsFile, FollowsText}
-use Rattle.table_follows.specs.Going.{IsReady, followed_by}
-use Rattle.table_follows.specs.declared.epoch_answer.Following.{Following}
-use Rattle.table_follows.proofs.Going.{all-part, known-begins}
+use Rattle.table_queries.specs.declared.fault.RunFault.{RunFault}
+use Rattle.table_epochs.specs.Followed.{FailsText, Followed, FollowsText}
+use Rattle.table_follows.specs.Followed.{FailsFile, FollowsFile}
+use Rattle.table_epochs.specs.Going.{followed_by}
+use Rattle.table_follows.specs.Ready.{IsReady}
+use Rattle.table_epochs.specs.declared.epoch_answer.Following.{Following}
+use Rattle.table_epochs.proofs.Going.{all-part, known-begins}
 
 pub file-followed : (known : Known) (schema : Schema) (table : Table) (paths : List (List ℕ)) (query : List ℕ) (fl : Following)
     (old new : Option (List ℕ))
@@ -33,6 +35,11 @@ file-failed known schema table paths query fl old new fault ready w =
       subst (λ (ps : List (List ℕ)). FailsText (known (get_or ps fl.stream.place []))
           (followed_by fl) old new fault) ready.same_paths w,
     )
+
+-- a fault once a text was followed to its end
+pub text-failed : (known : Option (List ℕ)) (f : Followed) (old new : Option (List ℕ)) (fault : RunFault)
+    → FollowsText known f old new → FailsText known f old new fault
+text-failed known f old new fault (text, read, all) = (text, known-begins known text read, all-part f text old new fault all)
 
 -- a fault once the file was followed to its end
 pub failed-after : (known : Known) (schema : Schema) (table : Table) (paths : List (List ℕ)) (query : List ℕ) (old new : Option (List ℕ))

@@ -3,18 +3,20 @@
 ghost use Rattle.std.specs.Prelude.{◌≡◌, ◌⊎◌, [], codes, get_or, map, true};
 ghost use Rattle.collector.specs.Watching.{inner_of};
 ghost use Rattle.table_follows.specs.Followed.{HasFailed, HasFollowed};
-ghost use Rattle.table_runs.specs.declared.fault.RunFault as fault;
-ghost use Rattle.table_runs.specs.declared.line.TableRun.{TableRun};
+ghost use Rattle.table_queries.specs.declared.fault.RunFault as fault;
+ghost use Rattle.schema_words.specs.declared.run_line.TableRun.{TableRun};
 
-use crate::following::follow_tables;
+use crate::files::follow_tables;
 use collector::{Sources, Watched};
-use console::Texts;
+use diagnostics::Texts;
+use schema_words::read_run_words;
 use std::alloc::Global;
 use std::io::Write;
 use std::sync::Wait;
 use std::thread::Threads;
 use table_commands::{Drafts, refuse, report};
-use table_runs::{RunFault, read_words, report_run};
+use table_queries::RunFault;
+use table_runs::report_run;
 
 /// Whether a line, whose first word is the program's own, is one of `follow` with the option `--schema`.
 pub fn is_table_follow(words: &[&str]) -> bool
@@ -53,7 +55,7 @@ pub fn answer_table_follow<
         ((asked : TableRun) × (fault : fault.RunFault) × HasFailed (S.content sources.now) asked fault (W.contents (inner_of out.old))
         (W.contents (inner_of out.new)))) }
 {
-    let asked = match read_words(alloc, words) {
+    let asked = match read_run_words(alloc, words) {
         Ok(Some(asked)) => asked,
         Ok(None) => return 2,
         Err(error) => return refuse(error, err),
@@ -62,6 +64,13 @@ pub fn answer_table_follow<
     match follow_tables(rt, alloc, sources, drafts, &asked, &mut texts, out) {
         Ok(()) => 0,
         Err(RunFault::Tables(fault)) => report(alloc, &fault, err),
-        Err(RunFault::Run(fault)) => report_run(alloc, &asked, &fault, &texts, err),
+        Err(RunFault::Run(fault)) => report_run(
+            alloc,
+            asked.query,
+            asked.explain,
+            &fault,
+            &texts,
+            err,
+        ),
     }
 }

@@ -10,10 +10,8 @@
 #![tactic(auto)]
 
 mod answering;
-mod epoch_answer;
-mod following;
-mod numbering;
+mod files;
 mod stream;
 
 pub use answering::{answer_table_follow, is_table_follow};
-pub use following::follow_tables;
+pub use files::follow_tables;

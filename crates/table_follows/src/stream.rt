@@ -9,14 +9,7 @@ use csv_cells::{Column, Empty, Kind};
 use schema::{Epochs, Table};
 use std::alloc::Global;
 use table_commands::{Fault, read_file};
-
-/// An input whose file arrives: its place among the inputs, and the column whose cells are the epochs.
-#[derive(Clone, Copy)]
-pub struct Stream {
-    pub place: usize,
-    pub column: usize,
-    pub cells: Column,
-}
+use table_epochs::Stream;
 
 /// What the cells of a column are.
 fn cells_at(columns: &[Column], column: usize) -> Column

@@ -3,21 +3,21 @@
 ghost use Rattle.std.specs.Prelude.{◌≡◌, ◌<◌, ◌⊎◌, true, codes, get_or, [], map};
 ghost use Rattle.collector.specs.Watching.{inner_of};
 ghost use Rattle.table_runs.specs.Runs.{IsDone};
-ghost use Rattle.table_runs.specs.declared.line.TableRun.{TableRun};
+ghost use Rattle.schema_words.specs.declared.run_line.TableRun.{TableRun};
 
-use crate::columns::write_columns;
-use crate::fault::RunFault;
-use crate::line::{TableRun, read_words};
 use crate::running::run_tables;
 use collector::{Sources, Watched};
-use console::{Fault, Query, Texts};
+use command_line::Query;
+use commands::{Fault, Texts};
 use diagnostics::{TextNames, explain_fault, write_path_hint, write_told};
+use schema_words::read_run_words;
 use std::alloc::Global;
 use std::io;
 use std::io::Write;
 use std::sync::Wait;
 use std::thread::Threads;
 use table_commands::{Drafts, refuse, report};
+use table_queries::{RunFault, write_columns};
 
 /// Whether a word is an option that `run` has with `--schema` alone, or that one.
 fn is_option(word: &str) -> bool {
@@ -54,17 +54,18 @@ fn names_of<'a>(query: Query<'a>) -> TextNames<'a> {
 /// Writes a fault's line, and what is wrong at its place where that is asked for.
 fn write_fault<W: Write>(
     alloc: Global,
-    asked: &TableRun<'_>,
+    query: Query<'_>,
+    explain: bool,
     fault: &Fault,
     texts: &Texts,
     out: &mut W,
 ) -> io::Result<()> {
-    let names = names_of(asked.query);
+    let names = names_of(query);
     write_told(fault, names, texts, out)?;
-    if asked.explain {
+    if explain {
         explain_fault(alloc, fault, names, texts, out)?;
         write_columns(fault, texts, out)?;
-        write_path_hint(fault, names.query, out)?;
+        write_path_hint(fault, names, out)?;
     }
     Ok(())
 }
@@ -72,7 +73,8 @@ fn write_fault<W: Write>(
 /// Reports a fault of the query or the run by one write, and gives its status.
 pub fn report_run<E: Write>(
     alloc: Global,
-    asked: &TableRun<'_>,
+    query: Query<'_>,
+    explain: bool,
     fault: &Fault,
     texts: &Texts,
     err: &mut E,
@@ -80,9 +82,9 @@ pub fn report_run<E: Write>(
     ensures { 0 < result }
 {
     let mut text = Vec::new(alloc);
-    let _ = match write_fault(alloc, asked, fault, texts, &mut text) {
+    let _ = match write_fault(alloc, query, explain, fault, texts, &mut text) {
         Ok(()) => err.write_all(text.as_slice()),
-        Err(_) => write_told(fault, names_of(asked.query), texts, err),
+        Err(_) => write_told(fault, names_of(query), texts, err),
     };
     fault.status()
 }
@@ -108,7 +110,7 @@ pub fn answer_table_run<
     ensures written { result ≡ 0 → (asked : TableRun) × IsDone (S.content sources.now) asked (W.contents (inner_of out.old)) (W.contents (inner_of out.new)) }
     ensures quiet { ((result ≡ 0) ⊎ (result ≡ 6)) ⊎ (W.contents (inner_of out.new) ≡ W.contents (inner_of out.old)) }
 {
-    let asked = match read_words(alloc, words) {
+    let asked = match read_run_words(alloc, words) {
         Ok(Some(asked)) => asked,
         Ok(None) => return 2,
         Err(error) => return refuse(error, err),
@@ -117,6 +119,13 @@ pub fn answer_table_run<
     match run_tables(rt, alloc, sources, drafts, &asked, &mut texts, out) {
         Ok(()) => 0,
         Err(RunFault::Tables(fault)) => report(alloc, &fault, err),
-        Err(RunFault::Run(fault)) => report_run(alloc, &asked, &fault, &texts, err),
+        Err(RunFault::Run(fault)) => report_run(
+            alloc,
+            asked.query,
+            asked.explain,
+            &fault,
+            &texts,
+            err,
+        ),
     }
 }

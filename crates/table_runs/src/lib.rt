@@ -1,19 +1,17 @@
-//! The command `run --schema`: CSV files in, and a CSV file out.
+//! The commands `check --schema` and `run --schema`.
 //!
-//! A program asks `is_table_run` whether a line is one, and then calls `answer_table_run`. It does in memory what `encode`, `run` and `decode` do in turn, by the
-//! same calls of `table_commands`, `console` and `tables`, and refuses a query that doesn't go with the schema, by `query_kinds`.
+//! A program asks `is_table_check` whether a line is one of `check --schema`, and then calls `answer_table_check`. It writes what the query's fields stand
+//! for. For `run --schema` these are `is_table_run` and `answer_table_run`: CSV files in, and a CSV file out. It does in memory what `encode`, `run` and
+//! `decode` do in turn, by the same calls of `table_commands`, `commands` and `tables`, and refuses what `table_queries` refuses before any CSV file.
 //!
 //! The contract: at status 0 standard output took a CSV file of the rows of the query's answer to the input text of the CSV files. At any
 //! other but 6 it is as it was. That a dictionary's file stays as it was then, and that it is kept at status 0, is only tested.
 #![tactic(auto)]
 
 mod answering;
-mod columns;
-mod fault;
-mod line;
+mod checking;
 mod running;
 
 pub use answering::{answer_table_run, is_table_run, report_run};
-pub use fault::RunFault;
-pub use line::{TableRun, read_words};
-pub use running::{Begun, Job, answer_text, asked_output, begin_run, run_job, run_tables};
+pub use checking::{answer_table_check, is_table_check};
+pub use running::{run_job, run_tables};

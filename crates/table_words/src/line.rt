@@ -1,5 +1,11 @@
 //! The words of `encode`, `decode` and `kinds`, read by `clap`.
 
+ghost use Rattle.std.specs.Prelude.{◌≡◌, IfOk, IfSome, codes, false, map, option_map};
+ghost use Rattle.std.specs.Result.{IsOkAnd};
+ghost use Rattle.clap.specs.Words.{HasMatchesOf, all_of, app_of, first_of, found_of, new_app, new_rule, rows_of, rule_of, with_subcommand};
+ghost use Rattle.clap.specs.declared.builder.Command.TheViews.{out-Command as fields_of};
+ghost use Rattle.table_words.specs.Line.{Asks, HoldsAt, decode_app, encode_app, kinds_app, line_app, named_rule, word_rule, words_rule};
+
 use clap::{Arg, ArgMatches, Command, Error};
 use std::alloc::{AllocError, Global};
 
@@ -48,7 +54,10 @@ impl From<AllocError> for LineError {
 }
 
 /// The option `--dictionary FILE`.
-pub fn dictionary_arg<'a>(alloc: Global) -> Arg<'a> {
+pub fn dictionary_arg<'a>(alloc: Global) -> Arg<'a>
+    ensures rule { rule_of result ≡ named_rule (codes "dictionary") }
+    ensures local { result.global ≡ false }
+{
     Arg::new(alloc, "dictionary")
         .long("dictionary")
         .value_name("FILE")
@@ -56,7 +65,10 @@ pub fn dictionary_arg<'a>(alloc: Global) -> Arg<'a> {
 }
 
 /// The option `--output NAME`.
-pub fn output_arg<'a>(alloc: Global) -> Arg<'a> {
+pub fn output_arg<'a>(alloc: Global) -> Arg<'a>
+    ensures rule { rule_of result ≡ named_rule (codes "output") }
+    ensures local { result.global ≡ false }
+{
     Arg::new(alloc, "output")
         .long("output")
         .value_name("NAME")
@@ -64,7 +76,10 @@ pub fn output_arg<'a>(alloc: Global) -> Arg<'a> {
 }
 
 /// The words of the inputs' files.
-pub fn files_arg<'a>(alloc: Global) -> Arg<'a> {
+pub fn files_arg<'a>(alloc: Global) -> Arg<'a>
+    ensures rule { rule_of result ≡ words_rule (codes "NAME=FILE") }
+    ensures local { result.global ≡ false }
+{
     Arg::new(alloc, "NAME=FILE")
         .required(true)
         .num_args(1..)
@@ -72,60 +87,137 @@ pub fn files_arg<'a>(alloc: Global) -> Arg<'a> {
 }
 
 /// The word of the schema.
-fn schema_arg<'a>(alloc: Global) -> Arg<'a> {
+fn schema_arg<'a>(alloc: Global) -> Arg<'a>
+    ensures rule { rule_of result ≡ word_rule (codes "SCHEMA") }
+    ensures local { result.global ≡ false }
+{
     Arg::new(alloc, "SCHEMA")
         .required(true)
         .help("The file with the schema; - is standard input")
 }
 
-fn encode_command<'a>(alloc: Global) -> Result<Command<'a>, AllocError> {
-    Command::new(alloc, "encode")
-        .about("Write CSV files as an input, by a schema")
+/// The word of the query.
+fn query_arg<'a>(alloc: Global) -> Arg<'a>
+    ensures rule { rule_of result ≡ word_rule (codes "QUERY") }
+    ensures local { result.global ≡ false }
+{
+    Arg::new(alloc, "QUERY")
+        .required(true)
+        .help("The file with the query; - is standard input")
+}
+
+/// The word of the answer.
+fn answer_arg<'a>(alloc: Global) -> Arg<'a>
+    ensures rule { rule_of result ≡ new_rule (codes "ANSWER") }
+    ensures local { result.global ≡ false }
+{
+    Arg::new(alloc, "ANSWER").help(
+        "The file with the answer; without it, and with -, standard input",
+    )
+}
+
+/// A command of that name, with its line of help.
+fn named<'a>(alloc: Global, name: &'a str, about: &'a str) -> Command<'a>
+    ensures app { app_of result ≡ new_app name.entry.now }
+    ensures local { (fields_of result).has_globals ≡ false }
+{
+    Command::new(alloc, name).about(about)
+}
+
+fn encode_command<'a>(alloc: Global) -> Result<Command<'a>, AllocError>
+    ensures app { IfOk result (λ c. app_of c ≡ encode_app) }
+    ensures local { IfOk result (λ c. (fields_of c).has_globals ≡ false) }
+{
+    named(alloc, "encode", "Write CSV files as an input, by a schema")
         .arg(dictionary_arg(alloc))?
         .arg(schema_arg(alloc))?
         .arg(files_arg(alloc))
 }
 
-fn decode_command<'a>(alloc: Global) -> Result<Command<'a>, AllocError> {
-    Command::new(alloc, "decode")
-        .about("Write an answer as a CSV file, by a schema")
-        .arg(dictionary_arg(alloc))?
-        .arg(output_arg(alloc))?
-        .arg(schema_arg(alloc))?
-        .arg(Arg::new(alloc, "ANSWER").help(
-            "The file with the answer; without it, and with -, standard input",
-        ))
+fn decode_command<'a>(alloc: Global) -> Result<Command<'a>, AllocError>
+    ensures app { IfOk result (λ c. app_of c ≡ decode_app) }
+    ensures local { IfOk result (λ c. (fields_of c).has_globals ≡ false) }
+{
+    named(
+        alloc,
+        "decode",
+        "Write an answer as a CSV file, by a schema",
+    )
+    .arg(dictionary_arg(alloc))?
+    .arg(output_arg(alloc))?
+    .arg(schema_arg(alloc))?
+    .arg(answer_arg(alloc))
 }
 
-fn kinds_command<'a>(alloc: Global) -> Result<Command<'a>, AllocError> {
-    Command::new(alloc, "kinds")
-        .about("Check what a query computes by a schema, and say what its fields stand for")
-        .arg(schema_arg(alloc))?
-        .arg(
-            Arg::new(alloc, "QUERY")
-                .required(true)
-                .help("The file with the query; - is standard input"),
-        )
+fn kinds_command<'a>(alloc: Global) -> Result<Command<'a>, AllocError>
+    ensures app { IfOk result (λ c. app_of c ≡ kinds_app) }
+    ensures local { IfOk result (λ c. (fields_of c).has_globals ≡ false) }
+{
+    named(
+        alloc,
+        "kinds",
+        "Check what a query computes by a schema, and say what its fields stand for",
+    )
+    .arg(schema_arg(alloc))?
+    .arg(query_arg(alloc))
 }
 
-fn line_command<'a>(alloc: Global) -> Result<Command<'a>, AllocError> {
+/// A command with one more below it, where that could be made.
+pub fn with_command<'a>(
+    line: Command<'a>,
+    made: Result<Command<'a>, AllocError>,
+) -> Result<Command<'a>, AllocError>
+    ensures { IfOk result (λ r. IsOkAnd made.entry
+        (λ c. (fields_of c).has_globals ≡ false → app_of r ≡ with_subcommand (app_of line.entry) (app_of c).top)) }
+{
+    match made {
+        Ok(command) => line.subcommand(command),
+        Err(error) => Err(error),
+    }
+}
+
+/// The program's own command.
+fn program<'a>(alloc: Global) -> Command<'a>
+    ensures { app_of result ≡ new_app (codes "loom") }
+{
     Command::new(alloc, "loom")
-        .subcommand_required(true)
-        .subcommand(encode_command(alloc)?)?
-        .subcommand(decode_command(alloc)?)?
-        .subcommand(kinds_command(alloc)?)
+}
+
+fn line_command<'a>(alloc: Global) -> Result<Command<'a>, AllocError>
+    ensures { IfOk result (λ c. app_of c ≡ line_app) }
+{
+    let line = program(alloc).subcommand_required(true);
+    let line = with_command(line, encode_command(alloc))?;
+    let line = with_command(line, decode_command(alloc))?;
+    with_command(line, kinds_command(alloc))
+}
+
+/// The first text of an argument.
+pub fn text_of<'a>(found: &ArgMatches<'a>, id: &str) -> Option<&'a str>
+    ensures { option_map (λ s. s.now) result ≡ first_of id.now (rows_of (found_of found.now)) }
+{
+    found.get_str(id)
+}
+
+/// The texts of an argument.
+pub fn texts_of<'f, 'a>(found: &'f ArgMatches<'a>, id: &str) -> Option<&'f [&'a str]>
+    ensures { option_map (λ v. map (λ s. s.now) v.now) result ≡ all_of id.now (rows_of (found_of found.now)) }
+{
+    found.get_strs(id)
 }
 
 /// What the matches of `encode` hold.
-fn encode_asked<'a>(
-    alloc: Global,
-    found: &ArgMatches<'a>,
-) -> Result<Option<Asked<'a>>, AllocError> {
-    let (Some(schema), Some(words)) = (found.get_str("SCHEMA"), found.get_strs("NAME=FILE")) else {
+fn encode_asked<'a>(alloc: Global, found: &ArgMatches<'a>) -> Result<Option<Asked<'a>>, AllocError>
+    ensures { IfOk result (λ asked. IfSome asked (HoldsAt (codes "encode") (rows_of (found_of found.now)))) }
+{
+    let Some(schema) = text_of(found, "SCHEMA") else {
+        return Ok(None);
+    };
+    let Some(words) = texts_of(found, "NAME=FILE") else {
         return Ok(None);
     };
     let files = Vec::from_slice(alloc, words)?;
-    let dictionary = found.get_str("dictionary");
+    let dictionary = text_of(found, "dictionary");
     Ok(Some(Asked::Encode {
         schema,
         files,
@@ -134,33 +226,63 @@ fn encode_asked<'a>(
 }
 
 /// What the matches of `decode` hold.
-fn decode_asked<'a>(found: &ArgMatches<'a>) -> Option<Asked<'a>> {
+fn decode_asked<'a>(found: &ArgMatches<'a>) -> Option<Asked<'a>>
+    ensures { IfSome result (HoldsAt (codes "decode") (rows_of (found_of found.now))) }
+{
     Some(Asked::Decode(Decoding {
-        schema: found.get_str("SCHEMA")?,
-        answer: found.get_str("ANSWER").unwrap_or("-"),
-        dictionary: found.get_str("dictionary"),
-        output: found.get_str("output"),
+        schema: text_of(found, "SCHEMA")?,
+        answer: text_of(found, "ANSWER").unwrap_or("-"),
+        dictionary: text_of(found, "dictionary"),
+        output: text_of(found, "output"),
     }))
 }
 
 /// What the matches of `kinds` hold.
-fn kinds_asked<'a>(found: &ArgMatches<'a>) -> Option<Asked<'a>> {
+fn kinds_asked<'a>(found: &ArgMatches<'a>) -> Option<Asked<'a>>
+    ensures { IfSome result (HoldsAt (codes "kinds") (rows_of (found_of found.now))) }
+{
     Some(Asked::Kinds(Listing {
-        schema: found.get_str("SCHEMA")?,
-        query: found.get_str("QUERY")?,
+        schema: text_of(found, "SCHEMA")?,
+        query: text_of(found, "QUERY")?,
     }))
 }
 
-/// What the words ask for; `None` where they hold no command after all.
-pub fn read_words<'a>(alloc: Global, words: &'a [&'a str]) -> Result<Option<Asked<'a>>, LineError> {
-    let found = match line_command(alloc)?.try_get_matches_from(words) {
-        Ok(found) => found,
-        Err(error) => return Err(LineError::Words(error)),
-    };
-    match found.subcommand() {
-        Some(("encode", matches)) => Ok(encode_asked(alloc, matches)?),
-        Some(("decode", matches)) => Ok(decode_asked(matches)),
-        Some(("kinds", matches)) => Ok(kinds_asked(matches)),
+/// What the matches of the command of that name hold.
+fn asked_at<'a>(
+    alloc: Global,
+    name: &str,
+    found: &ArgMatches<'a>,
+) -> Result<Option<Asked<'a>>, AllocError>
+    ensures { IfOk result (λ asked. IfSome asked (HoldsAt name.now (rows_of (found_of found.now)))) }
+{
+    match name {
+        "encode" => encode_asked(alloc, found),
+        "decode" => Ok(decode_asked(found)),
+        "kinds" => Ok(kinds_asked(found)),
         _ => Ok(None),
+    }
+}
+
+/// The matches of the words by a line's command, where that could be made.
+pub fn matches_of<'a>(
+    line: Result<Command<'a>, AllocError>,
+    words: &'a [&'a str],
+) -> Result<ArgMatches<'a>, LineError>
+    ensures { IfOk result (λ found. IsOkAnd line.entry (λ c. HasMatchesOf (app_of c) (map (λ s. s.now) words.entry.now) found)) }
+{
+    match line?.try_get_matches_from(words) {
+        Ok(found) => Ok(found),
+        Err(error) => Err(LineError::Words(error)),
+    }
+}
+
+/// What the words ask for; `None` where they hold no command after all.
+pub fn read_words<'a>(alloc: Global, words: &'a [&'a str]) -> Result<Option<Asked<'a>>, LineError>
+    ensures { IfOk result (λ asked. IfSome asked (Asks (map (λ s. s.now) words.entry.now))) }
+{
+    let found = matches_of(line_command(alloc), words)?;
+    match found.subcommand() {
+        None => Ok(None),
+        Some((name, matches)) => Ok(asked_at(alloc, name, matches)?),
     }
 }

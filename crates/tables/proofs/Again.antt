@@ -6,7 +6,8 @@ use Rattle.csv.specs.Reading.{AreRecords, Reached, default_config, strip_bom}
 use Rattle.csv.specs.Writing.{default_writer, escaped, fields_text, is_blank, read_back, row_text}
 use Rattle.csv.specs.declared.parser.State.TheVariants as st
 use Rattle.csv.proofs.RoundTrip.{read-write}
-use Rattle.tables.specs.Files.{IsDictionaryFile, csv_text, dictionary_rows}
+use Rattle.csv_answers.specs.Files.{csv_text}
+use Rattle.tables.specs.Dictionaries.{IsDictionaryFile, dictionary_rows}
 use Rattle.tables.specs.Tables.{IsReadDictionary}
 
 pub once : (p q : Read) → Some p ≡ Some q → p ≡ q

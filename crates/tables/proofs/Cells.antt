@@ -1,23 +1,26 @@
 -- The cells of a record, by their places.
-use Rattle.std.proofs.Common.{◌≡◌, ◌<◌, ◌≤◌, ℕ, zero, suc, List, [], ◌∷◌, Bool, true, false, not, Some, None, length, ◌++◌, refl, ap, arith, inl, inr}
+use Rattle.std.proofs.Common.{◌≡◌, ◌<◌, ◌≤◌, ◌+◌, ◌∙◌, ℕ, List, [], ◌∷◌, Some, length, get_or, take, take_all, ◌++◌, sym, ap, ap₂, arith, inl, inr}
 use Rattle.std.specs.Prelude.{codes, slice_get}
-use Rattle.std.proofs.lemmas.List.{length-append, map-append}
+use Rattle.std.proofs.lemmas.List.{length-append, map-append, take_more}
+use Rattle.std.proofs.lemmas.Option.{get_or_from_slice_get, slice_get-get_or, slice_get_within}
 use Rattle.csv_cells.specs.Texts.{HasText, IsAdded}
-use Rattle.tables.specs.Files.{dictionary_rows}
+use Rattle.tables.specs.Dictionaries.{dictionary_rows}
 
--- a place that there is has something
-pub is-there : {X : Type 0} (xs : List X) (i : ℕ) → i < length xs → slice_get xs i ≡ None → ⊥
-is-there [] i lt e = omega arith
-is-there (x ∷ xs) zero lt e = cc e
-is-there (x ∷ xs) (suc i) lt e = is-there xs i (omega arith) e
+-- one more cell of two lists that are equal so far
+pub next-cell : (fields cells : List (List ℕ)) (i : ℕ) (cell : List ℕ) → i < length cells → cell ≡ get_or cells i [] → slice_get fields i ≡ Some cell
+    → take i fields ≡ take i cells → take (i + 1) fields ≡ take (i + 1) cells
+next-cell fields cells i cell lt at there same =
+    let within : i < length fields = slice_get_within fields i cell there in
+    let here : get_or fields i [] ≡ get_or cells i [] = get_or_from_slice_get fields i cell [] there ∙ at in
+    take_more fields i [] within ∙ ap₂ (λ (t : List (List ℕ)) (x : List ℕ). t ++ x ∷ []) same here ∙ sym (take_more cells i [] lt)
 
-pub not-false : (b : Bool) → not b ≡ false → b ≡ true
-not-false true e = refl
-not-false false e = cc e
+-- each cell of equal lists
+pub same-cell : (fields cells : List (List ℕ)) (i : ℕ) (cell : List ℕ) → i < length cells → cell ≡ get_or cells i [] → fields ≡ cells → slice_get fields i ≡ Some cell
+same-cell fields cells i cell lt at same = ap (λ (t : List (List ℕ)). slice_get t i) same ∙ slice_get-get_or cells i [] lt ∙ ap Some (sym at)
 
-pub not-true : (b : Bool) → not b ≡ true → b ≡ false
-not-true true e = cc e
-not-true false e = refl
+-- and all of them
+pub same-cells : (fields cells : List (List ℕ)) (i : ℕ) → length fields ≡ length cells → length cells ≤ i → take i fields ≡ take i cells → fields ≡ cells
+same-cells fields cells i sized le same = sym (take_all i fields (omega (arith, sized, le))) ∙ same ∙ take_all i cells le
 
 -- the only cell
 pub one-cell : (cells : List (List ℕ)) (cell : List ℕ) → length cells ≡ 1 → slice_get cells 0 ≡ Some cell → cells ≡ cell ∷ []

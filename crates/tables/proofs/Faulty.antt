@@ -1,5 +1,6 @@
 -- Why a table's text has no lines.
 use Rattle.std.proofs.Common.{◌≡◌, ◌⊎◌, ◌++◌, ◌∙◌, ℕ, ℤ, List, [], ◌∷◌, None, ap, inl, inr}
+use Rattle.std.specs.Prelude.{Result, Ok, Err, OnOk}
 use Rattle.csv_cells.specs.Cells.{IsRefusedRow, Spells}
 use Rattle.csv_cells.specs.Encoded.{SpellsAll}
 use Rattle.csv_cells.specs.Texts.{Grows}
@@ -10,9 +11,14 @@ use Rattle.csv_cells.proofs.Rows.{spells-kept}
 use Rattle.schema.specs.declared.tables.Epochs.{Epochs}
 use Rattle.schema.specs.declared.tables.Epochs.TheVariants.{By}
 use Rattle.tables.specs.Tables.{AreInOrder, AreRefused, BeginsWith, IsRefusedHeader, fault_of_row}
-use Rattle.tables.specs.declared.refusal.Fault.TheVariants as fault
+use Rattle.csv_answers.specs.declared.refusal.Fault.TheVariants as fault
 use Rattle.tables.specs.declared.refusal.RecordFault.{RecordFault}
 use Rattle.tables.specs.declared.refusal.RecordFault.TheVariants.{NoMemory, Fault as InRecord}
+
+-- what a call says of its success
+pub at-ok : {P T E : Type 0} {x : T} (r : Result T E) → r ≡ Ok x → OnOk r P → P
+at-ok (Ok x) e h = h
+at-ok (Err x) e h = cc e
 
 -- rows that are spelled stay so as the dictionary grows
 pub all-kept : (columns : List Column) (old more : List (List ℕ)) (rows : List (List (List ℕ))) (numbers : List (List ℤ)) → SpellsAll columns old rows numbers → SpellsAll columns (old ++ more) rows numbers

@@ -1,12 +1,9 @@
 pub mod Lines
-pub mod Written
-pub mod Decoded
 pub mod Cells
+pub mod Records
 pub mod Again
 pub mod Joined
 pub mod Marks
-pub mod Cut
-pub mod Refused
 pub mod Faulty
 pub mod NoLines
 pub mod NoInput

@@ -15,8 +15,8 @@ use Rattle.schema.specs.declared.tables.Epochs.TheVariants.{One, By, Every}
 use Rattle.schema.specs.declared.tables.Schema.{Schema}
 use Rattle.schema.specs.declared.tables.Table.{Table}
 use Rattle.tables.specs.Inputs.{AreJoined, IsEncodedFile, IsInput, IsRefusedFile, has_own}
-use Rattle.tables.specs.declared.refusal.Fault.{Fault}
-use Rattle.tables.specs.declared.refusal.TableRefusal.TheVariants.{At}
+use Rattle.csv_answers.specs.declared.refusal.Fault.{Fault}
+use Rattle.csv_answers.specs.declared.refusal.TableRefusal.TheVariants.{At}
 use Rattle.tables.proofs.NoLines.{AreReadable, HasOrder, no-lines}
 
 -- no text has a number in an empty dictionary

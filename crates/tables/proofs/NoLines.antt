@@ -18,9 +18,9 @@ use Rattle.schema.specs.declared.tables.Epochs.TheVariants.{By}
 use Rattle.schema.specs.declared.tables.Table.{Table}
 use Rattle.tables.specs.Inputs.{IsEncodedFile, IsRefusedFile}
 use Rattle.tables.specs.Tables.{AreInOrder, HasHeader, IsLate, IsRecordFault, IsUnderHeader}
-use Rattle.tables.specs.declared.refusal.Fault.{Fault}
-use Rattle.tables.specs.declared.refusal.Fault.TheVariants.{Text, Header, Length, Cell, Order, Dictionary, Answer}
-use Rattle.tables.specs.declared.refusal.TableRefusal.TheVariants.{At}
+use Rattle.csv_answers.specs.declared.refusal.Fault.{Fault}
+use Rattle.csv_answers.specs.declared.refusal.Fault.TheVariants.{Text, Header, Length, Cell, Order, Dictionary, Answer}
+use Rattle.csv_answers.specs.declared.refusal.TableRefusal.TheVariants.{At}
 use Rattle.tables.proofs.Again.{once}
 
 -- as in every schema that was read: no number is what an empty cell of a column of texts stands for

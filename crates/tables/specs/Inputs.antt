@@ -13,8 +13,8 @@ use Rattle.schema.specs.declared.tables.Table.{Table}
 use Rattle.tables.specs.Tables.{AreEncoded, AreRefused, IsRefusedText}
 use Rattle.tables.specs.declared.refusal.EncodeRefusal.{EncodeRefusal}
 use Rattle.tables.specs.declared.refusal.RecordFault.TheVariants.{Fault as InRecord}
-use Rattle.tables.specs.declared.refusal.TableRefusal.{TableRefusal}
-use Rattle.tables.specs.declared.refusal.TableRefusal.TheVariants.{At, NoMemory}
+use Rattle.csv_answers.specs.declared.refusal.TableRefusal.{TableRefusal}
+use Rattle.csv_answers.specs.declared.refusal.TableRefusal.TheVariants.{At, NoMemory}
 use Rattle.tables.specs.declared.rows.Target.{Target}
 
 -- whether a table has an epoch for each value of a column

@@ -1,4 +1,5 @@
 pub mod Tables
-pub mod Files
-pub mod Answers
+pub mod Dictionaries
 pub mod Inputs
+pub use Rattle.csv_answers.specs.Answers
+pub use Rattle.csv_answers.specs.Files

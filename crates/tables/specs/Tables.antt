@@ -18,13 +18,13 @@ use Rattle.csv_strict.specs.Strict.{IsRefused, IsStrict}
 use Rattle.csv_strict.specs.declared.checking.Fault as strict
 use Rattle.schema.specs.declared.tables.Epochs.{Epochs}
 use Rattle.schema.specs.declared.tables.Epochs.TheVariants.{One, By, Every}
-use Rattle.tables.specs.declared.refusal.Fault.{Fault}
-use Rattle.tables.specs.declared.refusal.Fault.TheVariants.{Text, Header, Length, Cell, Order, Dictionary, Answer}
+use Rattle.csv_answers.specs.declared.refusal.Fault.{Fault}
+use Rattle.csv_answers.specs.declared.refusal.Fault.TheVariants.{Text, Header, Length, Cell, Order, Dictionary, Answer}
 use Rattle.tables.specs.declared.refusal.RecordFault.{RecordFault}
 use Rattle.tables.specs.declared.refusal.RecordFault.TheVariants.{NoMemory, Fault as InRecord}
-use Rattle.tables.specs.declared.refusal.TableRefusal.{TableRefusal}
-use Rattle.tables.specs.declared.refusal.TableRefusal.TheVariants as table
-use Rattle.tables.specs.Files.{dictionary_rows}
+use Rattle.csv_answers.specs.declared.refusal.TableRefusal.{TableRefusal}
+use Rattle.csv_answers.specs.declared.refusal.TableRefusal.TheVariants as table
+use Rattle.tables.specs.Dictionaries.{dictionary_rows}
 use Rattle.tables.specs.declared.rows.Target.{Target}
 
 -- the value that says the epoch of a record, where the table has an epoch for each
@@ -75,14 +75,14 @@ abbrev pub IsRefusedHeader : (names : List (List ℕ)) → (text : List ℕ) →
 IsRefusedHeader names text (InRecord fault) = (fault ≡ Header) × ¬ HasHeader names text
 IsRefusedHeader names text NoMemory = ⊤
 
--- a reader of the text has read the header row of these names
-pub record IsAfterHeader (names : List (List ℕ)) (text : List ℕ) (reader : Reader (Bor (List ℕ))) : Type 0 where
+-- a reader of the text has read these records
+pub record HasRead (text : List ℕ) (rows : List (List (List ℕ))) (reader : Reader (Bor (List ℕ))) : Type 0 where
   pub trim : reader_trim reader ≡ trim.None
   pub ready : Ready reader
   pub config : reader_config reader ≡ default_config
   pub rest : List ℕ
   pub source : source_of (λ (s : Bor (List ℕ)). Some s.now) reader ≡ Some rest
-  pub reached : Reached default_config st.StartRecord (strip_bom text) (names ∷ []) (reader_state reader) rest
+  pub reached : Reached default_config st.StartRecord (strip_bom text) rows (reader_state reader) rest
 
 -- the lines are of the numbers of the records under the header row of the text
 pub record AreEncoded (names : List (List ℕ)) (columns : List Column) (target : Target) (source : List ℕ) (texts : List (List ℕ)) (lines : List ℕ) : Type 0 where

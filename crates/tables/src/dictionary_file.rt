@@ -1,17 +1,18 @@
 //! The file of a dictionary: a CSV file of one column, with the header `text`, in which a text's number is its record's, from 0.
 
-ghost use Rattle.tables.specs.declared.refusal.TableRefusal.TheVariants as refusal;
+ghost use Rattle.csv_answers.specs.declared.refusal.TableRefusal.TheVariants as refusal;
 ghost use Rattle.std.specs.Prelude.{◌≡◌, ◌≢◌, ◌∷◌, ◌++◌, [], IfErr, IfOk, OnOk, List, Some, false, map, slice_get, true, ℕ};
 ghost use Rattle.csv.specs.Records.{fields_of};
 ghost use Rattle.csv_cells.specs.Texts.{HasText, texts_of};
-ghost use Rattle.tables.specs.Files.{IsDictionaryFile, IsFile, dictionary_rows};
-ghost use Rattle.tables.specs.Tables.{IsReadDictionary, IsRefusedDictionary};
+ghost use Rattle.csv_answers.specs.Files.{IsFile};
+ghost use Rattle.tables.specs.Dictionaries.{IsDictionaryFile, dictionary_rows};
+ghost use Rattle.tables.specs.Tables.{HasRead, IsReadDictionary, IsRefusedDictionary};
 ghost use Rattle.csv_strict.specs.Strict.{IsStrict};
 
-use crate::header::under_header;
-use crate::refusal::{Fault, RecordFault, TableRefusal};
-use crate::writing::{finish, new_file, write_cells};
-use csv::{ByteRecord, Writer};
+use crate::header::{new_reader, read_header, read_record};
+use crate::refusal::RecordFault;
+use csv::{ByteRecord, Reader, Writer};
+use csv_answers::{Fault, TableRefusal, finish, new_file, write_cells};
 use csv_cells::Dictionary;
 use csv_strict::{check_text, line_of_record};
 use std::alloc::Global;
@@ -54,6 +55,50 @@ fn names(alloc: Global) -> Result<Vec<Vec<u8>>, TableRefusal>
     Ok(names)
 }
 
+/// Reads the header row.
+fn read_names(alloc: Global, text: &[u8], reader: &mut Reader<&[u8]>) -> Result<(), TableRefusal>
+    requires strict { IsStrict text.now }
+    requires some { text.now ≢ [] }
+    requires none { HasRead text.now [] reader.old }
+    ensures read { OnOk result (HasRead text.now (dictionary_rows []) reader.new) }
+    ensures refused { IfErr result (IsRefusedDictionary text.now) }
+{
+    let names = names(alloc)?;
+    match read_header(alloc, reader, names.as_slice()) {
+        Ok(()) => {}
+        Err(RecordFault::Fault(fault)) => return Err(TableRefusal::At { fault, line: 1 }),
+        Err(RecordFault::NoMemory) => return Err(TableRefusal::NoMemory),
+    }
+    Ok(())
+}
+
+/// Adds the texts of the records that are left to those that were read.
+fn add_texts(
+    alloc: Global,
+    text: &[u8],
+    reader: &mut Reader<&[u8]>,
+    row: &mut ByteRecord,
+    dictionary: &mut Dictionary,
+) -> Result<(), TableRefusal>
+    requires strict { IsStrict text.now }
+    requires some { text.now ≢ [] }
+    requires read { HasRead text.now (dictionary_rows (texts_of dictionary.old)) reader.old }
+    ensures read { OnOk result (IsReadDictionary text.now (texts_of dictionary.new)) }
+    ensures refused { IfErr result (IsRefusedDictionary text.now) }
+{
+    for count in 1..u64::MAX {
+        if !read_record(reader, row)? {
+            return Ok(());
+        }
+        if !add_text(alloc, dictionary, row)? {
+            let fault = Fault::Dictionary;
+            let line = line_of_record(text, count);
+            return Err(TableRefusal::At { fault, line });
+        }
+    }
+    Err(TableRefusal::NoMemory)
+}
+
 /// The texts of the records under the header row.
 fn read_texts(alloc: Global, text: &[u8]) -> Result<Dictionary, TableRefusal>
     requires strict { IsStrict text.now }
@@ -61,25 +106,11 @@ fn read_texts(alloc: Global, text: &[u8]) -> Result<Dictionary, TableRefusal>
     ensures read { IfOk result (λ dictionary. IsReadDictionary text.now (texts_of dictionary)) }
     ensures refused { IfErr result (IsRefusedDictionary text.now) }
 {
-    let names = names(alloc)?;
-    let reader = match under_header(alloc, text, names.as_slice()) {
-        Ok(reader) => reader,
-        Err(RecordFault::Fault(fault)) => return Err(TableRefusal::At { fault, line: 1 }),
-        Err(RecordFault::NoMemory) => return Err(TableRefusal::NoMemory),
-    };
+    let mut reader = new_reader(alloc, text);
+    read_names(alloc, text, &mut reader)?;
+    let mut row = ByteRecord::new(alloc);
     let mut dictionary = Dictionary::new(alloc);
-    let mut count = 1u64;
-    for row in reader.into_byte_records() {
-        let Ok(row) = row else {
-            return Err(TableRefusal::NoMemory);
-        };
-        if !add_text(alloc, &mut dictionary, &row)? {
-            let fault = Fault::Dictionary;
-            let line = line_of_record(text, count);
-            return Err(TableRefusal::At { fault, line });
-        }
-        count = count.saturating_add(1);
-    }
+    add_texts(alloc, text, &mut reader, &mut row, &mut dictionary)?;
     Ok(dictionary)
 }
 

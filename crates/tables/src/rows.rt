@@ -1,16 +1,17 @@
 //! The records of a CSV text as lines of an input text.
 
 ghost use Rattle.schema.specs.declared.tables.Epochs.TheVariants.{By};
-ghost use Rattle.tables.specs.declared.refusal.Fault.TheVariants as fault;
+ghost use Rattle.csv_answers.specs.declared.refusal.Fault.TheVariants as fault;
 ghost use Rattle.tables.specs.declared.refusal.RecordFault.TheVariants as record_fault;
-ghost use Rattle.std.specs.Prelude.{◌≡◌, ◌↔◌, ◌++◌, IfErr, IfOk, IsTrue, OnOk, map, ℕ};
+ghost use Rattle.std.specs.Prelude.{◌≡◌, ◌↔◌, ◌++◌, ◌∷◌, [], IfErr, IfOk, IsTrue, List, OnOk, map, ℕ};
 ghost use Rattle.csv_cells.specs.Texts.{Grows, texts_of};
-ghost use Rattle.tables.specs.Tables.{AreEncoded, AreRefused, IsLate, epoch_of, head_text};
+ghost use Rattle.tables.specs.Tables.{AreEncoded, AreRefused, HasRead, IsLate, epoch_of, head_text};
 ghost use Rattle.csv_cells.specs.Encoded.{line_text};
 
-use crate::header::under_header;
-use crate::refusal::{Fault, RecordFault, RowRefusal, fault_of_row};
-use csv::ByteRecord;
+use crate::header::{new_reader, read_header, read_record};
+use crate::refusal::{RecordFault, RowRefusal, fault_of_row};
+use csv::{ByteRecord, Reader};
+use csv_answers::Fault;
 use csv_cells::{Column, Dictionary, append_line, read_row};
 use schema::Epochs;
 use std::alloc::{AllocError, Global};
@@ -106,6 +107,50 @@ fn no_memory(count: u64) -> RowRefusal
     RowRefusal { count, fault }
 }
 
+/// Appends the lines of the records that are left under a header row.
+fn append_rows(
+    alloc: Global,
+    columns: &[Column],
+    target: Target<'_>,
+    dictionary: &mut Dictionary,
+    reader: &mut Reader<&[u8]>,
+    row: &mut ByteRecord,
+    numbers: &mut Vec<i64>,
+    out: &mut Vec<u8>,
+) -> Result<(), RowRefusal>
+    ensures encoded { OnOk result ((lines : List ℕ) × (out.new.items ≡ out.old.items ++ lines)
+        × ((text : List ℕ) (names : List (List ℕ)) → HasRead text (names ∷ []) reader.old → AreEncoded names columns.now target.entry text (texts_of dictionary.new) lines)) }
+    ensures refused { IfErr result (λ r. (text : List ℕ) (names : List (List ℕ)) → HasRead text (names ∷ []) reader.old
+        → AreRefused names columns.now target.entry.epochs text (texts_of dictionary.new) r.fault) }
+    ensures grows { OnOk result (Grows (texts_of dictionary.old) (texts_of dictionary.new)) }
+{
+    let mut last = None;
+    for count in 1..u64::MAX {
+        match read_record(reader, row) {
+            Ok(true) => {}
+            Ok(false) => return Ok(()),
+            Err(_) => return Err(no_memory(count)),
+        }
+        match read_row(alloc, columns, dictionary, row, numbers) {
+            Ok(()) => {}
+            Err(fault) => {
+                let fault = fault_of_row(fault);
+                return Err(RowRefusal { count, fault });
+            }
+        }
+        let epoch = epoch_value(target.epochs, numbers.as_slice());
+        if is_late(last, epoch) {
+            let fault = late_fault(target.epochs);
+            return Err(RowRefusal { count, fault });
+        }
+        if append_row(out, target, last, numbers.as_slice()).is_err() {
+            return Err(no_memory(count));
+        }
+        last = epoch;
+    }
+    Err(no_memory(u64::MAX))
+}
+
 /// The lines of the records of a CSV text under its header row, whose cells are to be these names. A refusal names the first record, from the header row
 /// on, that has other cells than these, has no numbers, or comes too late.
 pub fn encode_rows(
@@ -120,36 +165,26 @@ pub fn encode_rows(
     ensures refused { IfErr result (λ r. AreRefused (map (λ v. v.items) names.now) columns.now target.entry.epochs text.now (texts_of dictionary.new) r.fault) }
     ensures grows { OnOk result (Grows (texts_of dictionary.old) (texts_of dictionary.new)) }
 {
-    let mut reader = match under_header(alloc, text, names) {
-        Ok(reader) => reader,
+    let mut reader = new_reader(alloc, text);
+    match read_header(alloc, &mut reader, names) {
+        Ok(()) => {}
         Err(fault) => return Err(RowRefusal { count: 0, fault }),
-    };
+    }
     let mut row = ByteRecord::new(alloc);
     let mut numbers = Vec::new(alloc);
     let mut out = Vec::new(alloc);
-    let mut last = None;
-    for count in 1..u64::MAX {
-        match reader.read_byte_record(&mut row) {
-            Ok(true) => {}
-            Ok(false) => return Ok(out),
-            Err(_) => return Err(no_memory(count)),
-        }
-        match read_row(alloc, columns, dictionary, &row, &mut numbers) {
-            Ok(()) => {}
-            Err(fault) => {
-                let fault = fault_of_row(fault);
-                return Err(RowRefusal { count, fault });
-            }
-        }
-        let epoch = epoch_value(target.epochs, numbers.as_slice());
-        if is_late(last, epoch) {
-            let fault = late_fault(target.epochs);
-            return Err(RowRefusal { count, fault });
-        }
-        if append_row(&mut out, target, last, numbers.as_slice()).is_err() {
-            return Err(no_memory(count));
-        }
-        last = epoch;
+    match append_rows(
+        alloc,
+        columns,
+        target,
+        dictionary,
+        &mut reader,
+        &mut row,
+        &mut numbers,
+        &mut out,
+    ) {
+        Ok(()) => {}
+        Err(refusal) => return Err(refusal),
     }
-    Err(no_memory(u64::MAX))
+    Ok(out)
 }

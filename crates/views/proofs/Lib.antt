@@ -10,3 +10,4 @@ pub mod StaleCounts
 pub mod WaitingCounts
 pub mod PostedViews
 pub mod OpenInputs
+pub use Rattle.progress.proofs.Contents

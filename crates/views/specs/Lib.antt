@@ -4,3 +4,4 @@ pub mod WorkerViews
 pub mod Stale
 pub mod Opening
 pub mod QueuedLists
+pub use Rattle.progress.specs.Content

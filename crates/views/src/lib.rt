@@ -26,4 +26,5 @@ pub use all_waiting::catch_up;
 pub use direct::Direct;
 pub use laws::{law_of_step, law_of_waiting};
 pub use local_views::LocalViews;
+pub use progress::LocationTracker;
 pub use views::Views;

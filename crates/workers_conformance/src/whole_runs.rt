@@ -3,7 +3,8 @@
 use crate::boards::COPY;
 use crate::flags::Meeting;
 use collector::Watched;
-use console::{RunOptions, Streams, Texts, Watcher, Workers, run};
+use command_line::Workers;
+use commands::{RunOptions, Streams, Texts, Watcher, run};
 use std::alloc::Global;
 use std::sync::Wait;
 use std::test::Fail;

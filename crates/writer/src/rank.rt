@@ -9,7 +9,7 @@ use expr_tree::{Cond, Connective, Operator, Scalar};
 use std::alloc::Allocator;
 
 /// How tightly a scalar binds, the loosest first.
-#[derive(Clone, Copy, Debug, PartialEq, Eq)]
+#[derive(Clone, Copy)]
 pub enum ScalarRank {
     Sum,
     Product,
@@ -18,7 +18,7 @@ pub enum ScalarRank {
 }
 
 /// How tightly a condition binds, the loosest first.
-#[derive(Clone, Copy, Debug, PartialEq, Eq)]
+#[derive(Clone, Copy)]
 pub enum CondRank {
     Disjunction,
     Conjunction,

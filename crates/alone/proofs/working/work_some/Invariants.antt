@@ -2,6 +2,7 @@ use Rattle.std.proofs.Common.{◌≡◌, ◌≤◌, ◌+◌}
 use Rattle.events.specs.Outputs.{counted}
 use Rattle.driver.specs.Tallies.{StaysTally}
 use Rattle.driver.specs.Received.{received_of}
+use Rattle.alone.specs.Moves.{Moves}
 use Rattle.alone.specs.Rests.{IsFree}
 use Rattle.alone.proofs.working.work_some.Given as goal
 
@@ -13,5 +14,6 @@ invariant-events g l =
       free : IsFree l.fn.board.shown l.worker → IsFree l.board.shown l.worker;
       counts : StaysTally l.fn.board.shown l.fn.tally l.board.shown l.tally;
       received : received_of l.fn.tally ≤ received_of l.tally;
+      moves : Moves l.fn.board.shown l.board.shown;
       most : counted l.turn ≡ counted (l.fn.turn + l._event);
     }

@@ -2,7 +2,7 @@ use Rattle.std.proofs.Common.{◌≡◌, ◌+◌, ◌-◌, ℕ, suc, true, false
 use Rattle.machine.specs.World.{Request}
 use Rattle.views.specs.Waiting.{IsSeenBy}
 use Rattle.board.specs.Deliverable.{IsDeliverable}
-use Rattle.progress.proofs.Contents.{got_at}
+use Rattle.views.proofs.Contents.{got_at}
 use Rattle.board.proofs.KthElements.{Remains, remain_first, remain_here, remain_none, remain_one}
 use Rattle.board.proofs.choices.kth_deliverable.Goals as goal
 use Rattle.board.proofs.choices.kth_deliverable.Goals.{then-may_deliver+else-left-eq0, else-may_deliver}

@@ -1,6 +1,6 @@
 use Rattle.std.proofs.Common.{◌≡◌, ◌+◌, length, take, vec_capacity}
 use Rattle.semantics.specs.Could.{Pointstamp}
-use Rattle.progress.specs.Content.{times_in}
+use Rattle.views.specs.Content.{times_in}
 use Rattle.board.specs.WorkerShown.{letters_count}
 use Rattle.board.proofs.delivery.note_letters.Given as goal
 

@@ -4,7 +4,7 @@ use Rattle.machine.specs.World.{Request}
 use Rattle.views.specs.Waiting.{IsSeenBy}
 use Rattle.board.specs.Deliverable.{IsBlocked, IsDeliverable, StandsBefore}
 use Rattle.board.proofs.Frontiers.{blocked_next, each_pushed, stands_blocked}
-use Rattle.progress.proofs.Contents.{got_at}
+use Rattle.views.proofs.Contents.{got_at}
 use Rattle.board.proofs.Places.{get_index}
 use Rattle.board.proofs.frontier.first_seen.Goals as goal
 

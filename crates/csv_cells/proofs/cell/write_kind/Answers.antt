@@ -1,9 +1,16 @@
-use Rattle.std.proofs.Common.{rules, FitsSigned, w64}
+use Rattle.std.proofs.Common.{rules, ℕ, ℤ, Bool, true, false, List, FitsSigned, w64}
 use Rattle.std.proofs.Math.Facts.{to_z-of_z}
 use Rattle.std.proofs.lemmas.Result.{IfOk-weaker}
-use Rattle.csv_cells.specs.Texts.{texts_of}
-use Rattle.csv_cells.proofs.LastDigits.{date_kind}
+use Rattle.scalar_texts.specs.Numbers.{WritesDate}
+use Rattle.text_dictionary.specs.Texts.{texts_of}
+use Rattle.csv_cells.specs.Cells.{WritesKind}
+use Rattle.csv_cells.specs.declared.column.Kind.TheVariants.{Date}
 use Rattle.csv_cells.proofs.cell.write_kind.Goals as goal
+
+-- in a column of dates
+date_kind : (texts : List (List ℕ)) (z : ℤ) (old new : List ℕ) (wrote : Bool) → WritesDate z old new wrote → WritesKind Date texts z old new wrote
+date_kind texts z old new true w = w
+date_kind texts z old new false w = w
 
 pub returns-in-Date : goal.returns-in-Date
 returns-in-Date c =

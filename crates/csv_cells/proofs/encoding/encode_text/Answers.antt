@@ -3,8 +3,8 @@ use Rattle.std.proofs.lemmas.List.{append-nil}
 use Rattle.csv.specs.Reading.{default_config, strip_bom}
 use Rattle.csv.specs.Records.{fields_of}
 use Rattle.csv.specs.declared.parser.State.TheVariants as st
-use Rattle.csv.proofs.ReadFacts.{rows-more, on-ok}
-use Rattle.csv_cells.specs.Texts.{texts_of, Grows}
+use Rattle.csv.proofs.ReadFacts.{rows-more}
+use Rattle.text_dictionary.specs.Texts.{texts_of, Grows}
 use Rattle.csv_cells.specs.Encoded.{line_text}
 use Rattle.csv_cells.specs.Cells.{Spells}
 use Rattle.csv_cells.proofs.Rows.{all-push, lines-push, grown-twice, none-spelled, no-lines, none-reached}
@@ -37,10 +37,10 @@ loop-row-preserved c =
     let inv = c.loop-row.invariant in
     let s = rw (c.in-Some.is, c.in-Ok.is) at ((c.next.ensures.steps inv.left inv.trim).0 inv.ready) in
     let m = rows-more (λ (s : Bor (List ℕ)). Some s.now) c.loop-row.row-iterator.rdr c.next.new.self.rdr (fields_of c.in-Ok.row) default_config st.StartRecord (strip_bom c.args.text.now) inv.rest inv.rows inv.config inv.source inv.reached s.0 in
-    let says : Spells c.args.columns.now (texts_of c.read_row.new.dictionary) (fields_of c.in-Ok.row) c.read_row.new.numbers.items = rw c.in-Ok-read_row.is at c.read_row.ensures.spelled in
-    let grows : Grows (texts_of c.loop-row.dictionary) (texts_of c.read_row.new.dictionary) = rw c.in-Ok-read_row.is at c.read_row.ensures.grows in
-    let line : c.append_line.new.out.items ≡ c.loop-row.out.items ++ line_text c.args.name.now c.as_slice.result.now = on-ok c.append_line.result (sym c.is_err.ensures.value ∙ c.if-is_err.false) c.append_line.ensures in
-    let all = all-push c.args.columns.now (texts_of c.loop-row.dictionary) grows.0 inv.rows inv.all (fields_of c.in-Ok.row) c.read_row.new.numbers.items inv.spelled (rw grows.1 at says) in
+    let says : Spells c.args.columns.now (texts_of c.push_record.new.dictionary) (fields_of c.in-Ok.row) c.push_record.new.numbers.items = rw c.in-Ok-push_record.is at c.push_record.ensures.spelled in
+    let grows : Grows (texts_of c.loop-row.dictionary) (texts_of c.push_record.new.dictionary) = rw c.in-Ok-push_record.is at c.push_record.ensures.grows in
+    let line : c.push_record.new.out.items ≡ c.loop-row.out.items ++ line_text c.args.name.now c.push_record.new.numbers.items = rw c.in-Ok-push_record.is at c.push_record.ensures.written in
+    let all = all-push c.args.columns.now (texts_of c.loop-row.dictionary) grows.0 inv.rows inv.all (fields_of c.in-Ok.row) c.push_record.new.numbers.items inv.spelled (rw grows.1 at says) in
     record {
       trim = s.0.3 ∙ inv.trim;
       ready = inl s.1;
@@ -50,8 +50,8 @@ loop-row-preserved c =
       source = m.1;
       rows = inv.rows ++ fields_of c.in-Ok.row ∷ [];
       reached = m.2;
-      all = inv.all ++ c.read_row.new.numbers.items ∷ [];
+      all = inv.all ++ c.push_record.new.numbers.items ∷ [];
       spelled = rw grows.1 all;
       grown = grown-twice _ _ _ inv.grown grows;
-      written = line ∙ ap (λ x. c.loop-row.out.items ++ line_text c.args.name.now x) c.as_slice.ensures.value ∙ ap (λ x. x ++ line_text c.args.name.now c.read_row.new.numbers.items) inv.written ∙ sym (lines-push c.args.name.now inv.all c.read_row.new.numbers.items);
+      written = line ∙ ap (λ x. x ++ line_text c.args.name.now c.push_record.new.numbers.items) inv.written ∙ sym (lines-push c.args.name.now inv.all c.push_record.new.numbers.items);
     }

@@ -2,7 +2,7 @@ use Rattle.std.proofs.Common.{◌≡◌, ◌<◌, ℕ, ℤ, List, Some}
 use Rattle.csv.specs.Reading.{Reached, Ready, default_config, source_of, strip_bom}
 use Rattle.csv.specs.declared.parser.State.TheVariants as st
 use Rattle.csv.specs.declared.reader.Trim.TheVariants as trim
-use Rattle.csv_cells.specs.Texts.{texts_of, Grows}
+use Rattle.text_dictionary.specs.Texts.{texts_of, Grows}
 use Rattle.csv_cells.specs.Encoded.{SpellsAll, lines_text}
 use Rattle.csv_cells.proofs.encoding.encode_text.Given as goal
 

@@ -1,6 +1,6 @@
 use Rattle.std.proofs.Common.{map}
 use Rattle.csv.specs.Records.{fields_of}
-use Rattle.csv_cells.specs.Texts.{texts_of}
+use Rattle.text_dictionary.specs.Texts.{texts_of}
 use Rattle.csv_cells.specs.Cells.{Spells}
 use Rattle.csv_cells.proofs.Rows.{spelled-once, if-some}
 use Rattle.csv_cells.proofs.laws.through_numbers.Goals as goal

@@ -1,6 +1,6 @@
 use Rattle.std.proofs.Common.{◌≡◌, ◌<◌, ℕ, [], length, pos, get_or, FitsSigned, w64}
 use Rattle.csv.specs.Records.{fields_of}
-use Rattle.csv_cells.specs.Texts.{texts_of, Grows}
+use Rattle.text_dictionary.specs.Texts.{texts_of, Grows}
 use Rattle.csv_cells.specs.Cells.{StandsAs, plain}
 use Rattle.csv_cells.proofs.row.read_row.Given as goal
 

@@ -1,5 +1,5 @@
 use Rattle.std.proofs.Common.{◌≡◌, ◌<◌, ℕ, [], length, map, pos, get_or, FitsSigned, w64}
-use Rattle.csv_cells.specs.Texts.{texts_of}
+use Rattle.text_dictionary.specs.Texts.{texts_of}
 use Rattle.csv_cells.specs.Cells.{StandsAs, plain}
 use Rattle.csv_cells.proofs.row.write_row.Given as goal
 

@@ -1,5 +1,5 @@
 use Rattle.std.proofs.Common.{◌∙◌, ◌+◌, [], ap, arith}
-use Rattle.events.specs.Outputs.{counted}
+use Rattle.board.specs.Outputs.{counted}
 use Rattle.driver.specs.Received.{received_in}
 use Rattle.driver.proofs.Sums.{sum_more}
 use Rattle.driver.proofs.receiving.received.Goals as goal

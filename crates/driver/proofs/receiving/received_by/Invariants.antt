@@ -1,6 +1,6 @@
 use Rattle.std.proofs.Common.{◌≡◌, take}
 use Rattle.semantics.specs.Multiset.{total}
-use Rattle.events.specs.Outputs.{counted}
+use Rattle.board.specs.Outputs.{counted}
 use Rattle.driver.specs.declared.tally.Counts.{Counts}
 use Rattle.driver.proofs.receiving.received_by.Given as goal
 

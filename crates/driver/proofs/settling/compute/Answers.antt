@@ -1,5 +1,5 @@
 use Rattle.std.proofs.Common.{subst}
-use Rattle.events.specs.Jobs.{Pass}
+use Rattle.board.specs.Jobs.{Pass}
 use Rattle.board.specs.Answers.{Holds}
 use Rattle.driver.proofs.settling.compute.Goals as goal
 

@@ -1,7 +1,7 @@
 use Rattle.std.proofs.Common.{◌≡◌, Some, subst}
 use Rattle.board.specs.declared.sent.Sent.{Sent}
-use Rattle.events.specs.Jobs.{Pass}
-use Rattle.events.specs.TooMany.{CountsFit, CountsOver}
+use Rattle.board.specs.Jobs.{Pass}
+use Rattle.board.specs.TooMany.{CountsFit, CountsOver}
 use Rattle.board.specs.Answers.{Holds}
 use Rattle.driver.proofs.Settled.{computed_there, event_is, refused_there}
 use Rattle.driver.proofs.settling.process.Goals as goal

@@ -1,4 +1,4 @@
-use Rattle.std.proofs.Common.{◌≡◌, ◌+◌, ◌∙◌, ◌++◌, List, [], ◌∷◌, length, length-append, sym, subst, ap, arith}
+use Rattle.std.proofs.Common.{◌+◌, ◌∙◌, ◌++◌, List, [], ◌∷◌, length, length-append, sym, subst, ap, arith}
 use Rattle.driver.specs.Tallies.{Covers, IsZero}
 use Rattle.driver.specs.declared.tally.Counts.{Counts}
 use Rattle.driver.proofs.Rows.{covers_push, zero_push}

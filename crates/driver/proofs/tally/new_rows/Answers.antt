@@ -1,4 +1,4 @@
-use Rattle.std.proofs.Common.{◌≡◌, ◌+◌, ◌∙◌, ◌++◌, List, [], ◌∷◌, length, length-append, map, sym, subst, ap, arith}
+use Rattle.std.proofs.Common.{◌+◌, ◌∙◌, [], ◌∷◌, length, length-append, map, sym, subst, ap, arith}
 use Rattle.std.proofs.lemmas.List.{length-map, map-append}
 use Rattle.driver.specs.Tallies.{AreZero, CoversAll, Rows}
 use Rattle.driver.proofs.Rows.{covers_all_push, none_zero, rows_push}

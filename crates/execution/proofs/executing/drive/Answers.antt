@@ -1,4 +1,4 @@
-use Rattle.std.proofs.Common.{◌≡◌, ◌∙◌, All, List, [], subst, sym, arith}
+use Rattle.std.proofs.Common.{◌∙◌, subst, sym}
 use Rattle.std.proofs.lemmas.Result.{IfOk-weaker}
 use Rattle.board.specs.Shown.{Shown}
 use Rattle.driver.specs.Tallies.{IsTally, Rows}

@@ -32,4 +32,4 @@ pub returns-then-intake-eq0 : goal.returns-then-intake-eq0
 returns-then-intake-eq0 g c = begun_first c.args.board.now.shown c.feed_portion.new.board.shown c.args.intake.now c.feed_portion.new.intake _ c.in_ok-feed_portion.ensures c.if-intake-eq0.true (omega (arith, c.if-intake-eq0.true)) refl refl
 
 pub returns : goal.returns
-returns g c = begun_sealed c.args.board.now.shown c.feed_portion.new.board.shown c.seal_inputs.new.board.shown c.args.intake.now c.feed_portion.new.intake _ c.len.result c.in_ok-feed_portion.ensures c.in_ok-seal_inputs.ensures (search rules) c.if-intake-eq0.false (omega arith) refl refl
+returns g c = begun_sealed c.args.board.now.shown c.feed_portion.new.board.shown c.seal_inputs.new.board.shown c.args.intake.now c.feed_portion.new.intake _ c.len.result c.in_ok-feed_portion.ensures c.in_ok-seal_inputs.ensures.seals (search rules) c.if-intake-eq0.false (omega arith) refl refl

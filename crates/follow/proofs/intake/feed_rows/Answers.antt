@@ -27,4 +27,4 @@ pub returns-in-Ok : goal.returns-in-Ok
 returns-in-Ok g c =
     let rows = c.take_rows-rows.result.rows in
     let same : c.in-Some.batch ≈ rows = subst (λ o. records_in o ≈ rows) c.in-Some.is c.in_ok-from_rows.ensures.value in
-    sent_one c.args.board.now.shown c.feed.new.board.shown c.args.intake.now c.take_rows-rows.new.intake c.args.input c.in-Some.batch rows same c.take_rows-rows.ensures.empties c.requires.there c.in-Ok.ensures
+    sent_one c.args.board.now.shown c.feed.new.board.shown c.args.intake.now c.take_rows-rows.new.intake c.args.input c.in-Some.batch rows same c.take_rows-rows.ensures.empties c.requires.there c.in-Ok.ensures.feeds

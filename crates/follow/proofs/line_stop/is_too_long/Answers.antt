@@ -1,4 +1,4 @@
-use Rattle.std.proofs.Common.{◌≡◌, ◌<◌, ◌≤◌, ℕ, List, ap, arith, length, sym}
+use Rattle.std.proofs.Common.{◌≤◌, arith, length}
 use Rattle.follow.proofs.TooLong.{not_long, told_long}
 use Rattle.follow.proofs.line_stop.is_too_long.Goals as goal
 

@@ -2,12 +2,14 @@ use Rattle.std.proofs.Common.{◌≡◌, ◌<◌, ◌+◌, ◌∙◌, ◌∷◌,
 use Rattle.std.specs.List.{AllByRecursion}
 use Rattle.board.specs.Lateness.{BoardShown}
 use Rattle.board.specs.Shown.{Shown, tables}
-use Rattle.follow.specs.Scenes.{IsFreeBut}
-use Rattle.follow.specs.Working.{Advances, HasNoEvent, Moves, TakesAlone}
+use Rattle.alone.specs.Scenes.{AreFreeBut}
+use Rattle.alone.specs.Moves.{Advances, Moves}
+use Rattle.follow.specs.Working.{HasNoEvent, TakesAlone}
 use Rattle.follow.specs.Slots.{IsSlotOf, workers_of}
 use Rattle.follow.specs.declared.slot.Slot.{Slot}
 use Rattle.follow.specs.declared.slot.Slot.TheVariants as slot
-use Rattle.follow.proofs.Working.{advances_move, all_below, all_push, all_wider, as_many, moves_on, none_of, nothing_more, nothing_pushed, some_of, stays, workers_push}
+use Rattle.alone.proofs.Stepping.{advances_move, moves_on, stays}
+use Rattle.follow.proofs.Working.{all_below, all_push, all_wider, as_many, none_of, nothing_more, nothing_pushed, some_of, workers_push}
 use Rattle.follow.proofs.rounds.claim_each.Goals as goal
 use Rattle.follow.proofs.rounds.claim_each.Goals.{in-Some+in_ok-keep-in-Some, in-None}
 
@@ -17,7 +19,7 @@ loop-worker-init g c = record {
   same = refl;
   own = subst (All (IsSlotOf (tables c.args.board.now.shown))) (sym c.requires.none) (λ k d l. absurd (omega (arith, l)));
   moves = stays c.args.board.now.shown c.args.board.now.shown refl;
-  free = subst (λ (xs : List Slot). IsFreeBut c.args.board.now.shown (workers_of xs)) (sym c.requires.none) c.requires.free;
+  free = subst (λ (xs : List Slot). AreFreeBut c.args.board.now.shown (workers_of xs)) (sym c.requires.none) c.requires.free;
   below = subst (λ (xs : List Slot). AllByRecursion (λ (k : ℕ). k < 0) (workers_of xs)) (sym c.requires.none) tt;
   none = λ e. (refl, λ k l. absurd (omega (arith, l)));
 }
@@ -48,7 +50,7 @@ loop-worker-preserved g c =
             same = ap tables still ∙ same;
             own = subst (λ ts. All (IsSlotOf ts) c.match-claim_one.slots.items) same (subst (λ v. All (IsSlotOf (tables u)) v.items) (sym w.slots-is) w.in_ok-keep-in-Some.ensures.own);
             moves = subst (Moves s) (sym still) (moves_on s t u before.moves (advances_move t u (some_of (λ x. Advances t u) _ _ w.in-Some.is c.claim_one.ensures.some)));
-            free = subst (λ (x : Shown). IsFreeBut x (workers_of c.match-claim_one.slots.items)) (sym still) (subst (IsFreeBut u) (sym workers) (alone.1 earlier before.free));
+            free = subst (λ (x : Shown). AreFreeBut x (workers_of c.match-claim_one.slots.items)) (sym still) (subst (AreFreeBut u) (sym workers) (alone.1 earlier before.free));
             below = subst (AllByRecursion (λ (k : ℕ). k < n + 1)) (sym workers) (all_push (λ (k : ℕ). k < n + 1) earlier n (all_wider n earlier before.below) (omega arith));
             none = λ e. absurd (nothing_pushed c.loop-worker.slots.items (slot.Claimed w.in-Some.work) (sym kept ∙ e));
           }
@@ -61,7 +63,7 @@ loop-worker-preserved g c =
             same = ap tables still ∙ before.same;
             own = subst (All (IsSlotOf (tables s))) (sym kept) before.own;
             moves = subst (Moves s) (sym still) before.moves;
-            free = subst (λ (x : Shown). IsFreeBut x (workers_of c.match-claim_one.slots.items)) (sym still) (subst (λ (xs : List Slot). IsFreeBut t (workers_of xs)) (sym kept) before.free);
+            free = subst (λ (x : Shown). AreFreeBut x (workers_of c.match-claim_one.slots.items)) (sym still) (subst (λ (xs : List Slot). AreFreeBut t (workers_of xs)) (sym kept) before.free);
             below = subst (λ (xs : List Slot). AllByRecursion (λ (k : ℕ). k < n + 1) (workers_of xs)) (sym kept) (all_wider n earlier before.below);
             none = λ e.
                 let none_before = before.none (sym kept ∙ e) in

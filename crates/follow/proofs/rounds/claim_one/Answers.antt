@@ -1,4 +1,5 @@
-use Rattle.follow.proofs.Working.{hands_advance, idle_nothing, not_refused, takes_alone}
+use Rattle.alone.proofs.Stepping.{hands_advance}
+use Rattle.follow.proofs.Working.{idle_nothing, not_refused, takes_alone}
 use Rattle.follow.proofs.rounds.claim_one.Goals as goal
 
 pub unreachable-requires : goal.unreachable-requires

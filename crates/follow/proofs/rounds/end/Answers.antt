@@ -3,7 +3,8 @@ use Rattle.events.specs.Jobs.{Pass}
 use Rattle.follow.specs.Working.{EndsAlone}
 use Rattle.machine.specs.Step.{Step}
 use Rattle.driver.specs.Ends.{event_of}
-use Rattle.follow.proofs.Working.{ends_alone, one_step}
+use Rattle.alone.proofs.Stepping.{one_step}
+use Rattle.follow.proofs.Working.{ends_alone}
 use Rattle.follow.proofs.rounds.end.Goals as goal
 
 pub returns-in-Ok-clause-steps : goal.returns-in-Ok-clause-steps

@@ -1,5 +1,6 @@
 use Rattle.machine.specs.Step.{Step}
-use Rattle.follow.proofs.Working.{ends_alone, one_step}
+use Rattle.alone.proofs.Stepping.{one_step}
+use Rattle.follow.proofs.Working.{ends_alone}
 use Rattle.follow.proofs.rounds.process_one.Goals as goal
 
 pub returns-in-Ok-clause-steps : goal.returns-in-Ok-clause-steps

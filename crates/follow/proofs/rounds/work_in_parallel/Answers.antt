@@ -1,5 +1,5 @@
 use Rattle.std.proofs.Common.{length, subst, sym}
-use Rattle.follow.specs.Scenes.{IsFreeBut}
+use Rattle.alone.specs.Scenes.{AreFreeBut}
 use Rattle.follow.proofs.Calls.{ok_of, if_ok_of}
 use Rattle.follow.proofs.Working.{parallel_worked}
 use Rattle.follow.proofs.rounds.work_in_parallel.Goals as goal
@@ -16,4 +16,4 @@ pub returns-clause-free : goal.returns-clause-free
 returns-clause-free g c =
     let made = c.in_ok-round.ensures.made in
     let claimed = ok_of c.claim_each-claimed.result _ made.0 c.claim_each-claimed.ensures.free in
-    ok_of c.end_each-round.result _ made.1 c.end_each-round.ensures.free (subst (IsFreeBut c.claim_each-claimed.new.board.shown) (sym c.compute_each.ensures.workers) claimed)
+    ok_of c.end_each-round.result _ made.1 c.end_each-round.ensures.free (subst (AreFreeBut c.claim_each-claimed.new.board.shown) (sym c.compute_each.ensures.workers) claimed)

@@ -1,8 +1,9 @@
 use Rattle.std.proofs.Common.{◌≡◌, ◌+◌, ◌∙◌, [], ap, arith, length, refl, subst, sym}
 use Rattle.board.specs.Lateness.{BoardShown}
 use Rattle.board.specs.Shown.{Shown, tables}
-use Rattle.follow.specs.Scenes.{IsFree}
-use Rattle.follow.specs.Working.{Advances, EndsAlone, HasNoEvent, HasWorked, TakesAlone}
+use Rattle.alone.specs.Scenes.{AreFree}
+use Rattle.alone.specs.Moves.{Advances}
+use Rattle.follow.specs.Working.{EndsAlone, HasNoEvent, HasWorked, TakesAlone}
 use Rattle.follow.specs.declared.rounds.Round.{Round}
 use Rattle.follow.proofs.Working.{as_many, none_of, round_all, some_of, turn_nothing, turn_some}
 use Rattle.follow.proofs.rounds.work_in_turn.Goals as goal
@@ -34,7 +35,7 @@ loop-worker-preserved g c =
           record {
             end_is = before.end_is;
             same = ap tables still ∙ w.in_ok-process_one-in-Some.ensures.tables ∙ same;
-            free = subst IsFree (sym still) (ends [] (alone.1 [] before.free));
+            free = subst AreFree (sym still) (ends [] (alone.1 [] before.free));
             worked =
                 subst (λ (x : Shown). HasWorked c.match-claim_one.round (n + 1) s x) (sym still)
                 (subst (λ (r : Round). HasWorked r (n + 1) s v) (sym w.round-is)
@@ -46,7 +47,7 @@ loop-worker-preserved g c =
           record {
             end_is = before.end_is;
             same = ap tables still ∙ same;
-            free = subst IsFree (sym (still ∙ nothing.0)) before.free;
+            free = subst AreFree (sym (still ∙ nothing.0)) before.free;
             worked =
                 subst (λ (x : Shown). HasWorked c.match-claim_one.round (n + 1) s x) (sym still)
                 (subst (λ (r : Round). HasWorked r (n + 1) s u) (sym w.round-is) (turn_nothing c.loop-worker.round n s t u before.worked nothing));

@@ -1,9 +1,11 @@
 use Rattle.std.proofs.Common.{length, subst}
-use Rattle.follow.specs.Working.{Advances, HasWorked}
+use Rattle.alone.specs.Moves.{Advances}
+use Rattle.follow.specs.Working.{HasWorked}
 use Rattle.follow.specs.declared.rounds.Round.{Round}
 use Rattle.follow.specs.declared.rounds.Round.TheVariants as round
-use Rattle.follow.proofs.Moved.{works_not, works_on}
-use Rattle.follow.proofs.Working.{advances_less, advances_move, idle_off, moves_work, stays}
+use Rattle.alone.proofs.Moved.{works_not, works_on}
+use Rattle.alone.proofs.Stepping.{advances_move, moves_work, stays}
+use Rattle.follow.proofs.Working.{advances_less, idle_off}
 use Rattle.follow.proofs.rounds.work_off.Goals as goal
 
 pub rounds-init : goal.rounds-init

@@ -3,7 +3,7 @@ use Rattle.expr_tree.specs.Views.{let_tree}
 use Rattle.expr_tree.specs.Plain.{plain_let}
 use Rattle.semantics.specs.Query.{Output}
 use Rattle.origins.specs.Relations.{rest_origins}
-use Rattle.origins.specs.Shown.{scope_of}
+use Rattle.origins.specs.Scopes.{scope_of}
 use Rattle.origins.proofs.program.declare_lets.Given as goal
 
 -- what is left decides

@@ -2,7 +2,8 @@ use Rattle.std.proofs.Common.{◌≡◌, map, take}
 use Rattle.expr_tree.specs.Views.{output_tree}
 use Rattle.expr_tree.specs.Plain.{plain_output}
 use Rattle.origins.specs.Relations.{rel_origins}
-use Rattle.origins.specs.Shown.{origins, scope_of}
+use Rattle.field_origins.specs.Shown.{origins}
+use Rattle.origins.specs.Scopes.{scope_of}
 use Rattle.origins.proofs.program.output_origins.Given as goal
 
 -- so far

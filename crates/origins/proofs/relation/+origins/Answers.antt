@@ -2,8 +2,9 @@ use Rattle.std.proofs.Common.{◌≡◌, suc, IfOk, sym, ap, ◌∙◌, subst, a
 use Rattle.std.proofs.lemmas.List.{length-map}
 use Rattle.expr_tree.specs.Plain.{plain_rel}
 use Rattle.expr_tree.specs.Views.{rel_tree}
-use Rattle.origins.specs.Shown.{origin, origins, scope_of}
-use Rattle.origins.specs.Sources.{columns_from}
+use Rattle.field_origins.specs.Shown.{origin, origins}
+use Rattle.origins.specs.Scopes.{scope_of}
+use Rattle.field_origins.specs.Sources.{columns_from}
 use Rattle.origins.proofs.LoopParts.{looped_of}
 use Rattle.origins.proofs.relation.+origins.Goals as goal
 

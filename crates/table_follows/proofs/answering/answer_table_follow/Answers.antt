@@ -1,9 +1,9 @@
-use Rattle.std.proofs.Common.{◌≡◌, ℕ, List, Option, inl, inr}
+use Rattle.std.proofs.Common.{arith, ◌≡◌, ℕ, List, Option, inl, inr}
 use Rattle.std.specs.Prelude.{◌⊎◌}
 use Rattle.collector.specs.Watching.{inner_of}
-use Rattle.console.specs.Asked.{Known}
-use Rattle.table_runs.specs.declared.fault.RunFault.{RunFault}
-use Rattle.table_runs.specs.declared.line.TableRun.{TableRun}
+use Rattle.table_commands.specs.Done.{Known}
+use Rattle.table_queries.specs.declared.fault.RunFault.{RunFault}
+use Rattle.schema_words.specs.declared.run_line.TableRun.{TableRun}
 use Rattle.table_follows.specs.Followed.{FailsSo, HasFailed}
 use Rattle.table_follows.proofs.answering.answer_table_follow.Goals as goal
 
@@ -23,3 +23,9 @@ returns-clause-fault g c =
     inr (failed (g.S.Sources.content c.args.sources.now) c.in-Ok-Some.asked (g.W.Write.contents (inner_of c.args.out.now))
     (g.W.Write.contents (inner_of c.follow_tables.new.out))
     c.in-Err-Run.field-0 c.in-Err-Run.ensures.fault)
+
+pub returns-in-Err-Tables-clause-written : goal.returns-in-Err-Tables-clause-written
+returns-in-Err-Tables-clause-written g c = λ zero. absurd (omega (arith, zero, c.report.ensures.some))
+
+pub returns-clause-written : goal.returns-clause-written
+returns-clause-written g c = λ zero. absurd (omega (arith, zero, c.report_run.ensures))

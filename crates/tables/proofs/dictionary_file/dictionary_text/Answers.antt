@@ -2,7 +2,8 @@ use Rattle.std.proofs.Common.{◌≡◌, ◌∙◌, ◌∷◌, ◌++◌, ◌+◌
 use Rattle.std.proofs.lemmas.List.{take_more}
 use Rattle.std.proofs.lemmas.Option.{get_or_from_slice_get, slice_get_within}
 use Rattle.csv_cells.specs.Texts.{texts_of}
-use Rattle.tables.specs.Files.{IsFile, dictionary_rows}
+use Rattle.csv_answers.specs.Files.{IsFile}
+use Rattle.tables.specs.Dictionaries.{dictionary_rows}
 use Rattle.tables.proofs.Cells.{dictionary-push}
 use Rattle.tables.proofs.dictionary_file.dictionary_text.Goals as goal
 

@@ -1,108 +1,23 @@
-use Rattle.std.proofs.Common.{Bor, Bool, subst, None, true, false, ◌≡◌, ℕ, List, [], ◌∷◌, ◌++◌, Some, sym, ◌∙◌, ap, inl, map}
-use Rattle.std.proofs.lemmas.List.{append-nil}
-use Rattle.csv.specs.Reading.{ReadRecord, default_config, strip_bom}
-use Rattle.csv.specs.Records.{fields_of}
-use Rattle.csv.specs.declared.parser.State.TheVariants as st
-use Rattle.csv.proofs.ReadFacts.{rows-end, rows-more, on-ok}
-use Rattle.csv_cells.specs.Texts.{texts_of, Grows}
-use Rattle.tables.specs.Tables.{IsAfterHeader, IsLate, rows_text, epoch_of}
-use Rattle.tables.proofs.Lines.{last_epoch, row_text, rows-push, last-push, late-by, late-push, no-rows, no-epoch, none-ordered, now-late, order-push}
-use Rattle.csv_cells.specs.Cells.{Spells}
-use Rattle.csv_cells.specs.Encoded.{SpellsAll}
-use Rattle.tables.proofs.Faulty.{all-kept, header-refused, late-refused, row-stops}
-use Rattle.csv_cells.proofs.Rows.{all-push, grown-twice, none-spelled}
+use Rattle.std.proofs.Common.{◌≡◌, ◌++◌, ◌∙◌, ◌∷◌, [], ℕ, List, ap, map, subst, sym}
+use Rattle.csv_cells.specs.Texts.{texts_of}
+use Rattle.tables.specs.Tables.{AreEncoded, HasRead}
+use Rattle.tables.proofs.Faulty.{at-ok, header-refused}
 use Rattle.tables.proofs.rows.encode_rows.Goals as goal
-
-pub loop-count-init : goal.loop-count-init
-loop-count-init c =
-    let after : IsAfterHeader (map (λ v. v.items) c.args.names.now) c.args.text.now c.in-Ok.reader = rw c.in-Ok.is at c.under_header.ensures.found in
-    rw c.new-out.ensures.items (record {
-      trim = after.trim;
-      ready = after.ready;
-      config = after.config;
-      rest = after.rest;
-      source = after.source;
-      rows = [];
-      reached = after.reached;
-      all = [];
-      spelled = none-spelled _ _;
-      ordered = none-ordered c.args.target.epochs None;
-      grown = ([], sym (append-nil (texts_of c.args.dictionary.now)));
-      written = no-rows c.args.target None;
-      latest = no-epoch c.args.target None;
-    })
-
-pub loop-count-preserved : goal.loop-count-preserved
-loop-count-preserved c =
-    let inv = c.loop-count.invariant in
-    let cells : List (List ℕ) = fields_of c.read_byte_record.new.row in
-    let read = subst (λ (found : Bool). ReadRecord (λ (s : Bor (List ℕ)). Some s.now) c.loop-count.reader c.read_byte_record.new.self found cells) c.in-Ok-true.field-0-test (c.in-Ok-true.ensures.reads inv.trim inv.ready) in
-    let m = rows-more (λ (s : Bor (List ℕ)). Some s.now) c.loop-count.reader c.read_byte_record.new.self cells default_config st.StartRecord (strip_bom c.args.text.now) inv.rest (map (λ v. v.items) c.args.names.now ∷ inv.rows) inv.config inv.source inv.reached read in
-    let says : Spells c.args.columns.now (texts_of c.read_row.new.dictionary) cells c.read_row.new.numbers.items = rw c.in-Ok-read_row.is at c.read_row.ensures.spelled in
-    let grows : Grows (texts_of c.loop-count.dictionary) (texts_of c.read_row.new.dictionary) = rw c.in-Ok-read_row.is at c.read_row.ensures.grows in
-    let target = c.args.target in
-    let zs = c.read_row.new.numbers.items in
-    let epoch : c.epoch_value-epoch.result ≡ epoch_of target.epochs zs = c.epoch_value-epoch.ensures ∙ ap (λ x. epoch_of target.epochs x) c.as_slice.ensures.value in
-    let on_time : IsLate c.loop-count.last c.epoch_value-epoch.result → ⊥ = λ late. let e : true ≡ false = sym (c.is_late.ensures.1 late) ∙ c.if-is_late.false in cc e in
-    let line : c.append_row.new.out.items ≡ c.loop-count.out.items ++ row_text target c.loop-count.last c.as_slice-in-loop-count.result.now = on-ok c.append_row.result (sym c.is_err.ensures.value ∙ c.if-is_err.false) c.append_row.ensures in
-    let all = all-push c.args.columns.now (texts_of c.loop-count.dictionary) grows.0 inv.rows inv.all cells zs inv.spelled (rw grows.1 at says) in
-    record {
-      trim = read.3 ∙ inv.trim;
-      ready = inl (c.in-Ok-true.ensures.ready inv.trim);
-      config = read.2 ∙ inv.config;
-      rest = m.0;
-      source = m.1;
-      rows = inv.rows ++ cells ∷ [];
-      reached = m.2;
-      all = inv.all ++ zs ∷ [];
-      spelled = rw grows.1 all;
-      ordered = order-push target None inv.all zs inv.ordered (λ late. on_time (now-late c.loop-count.last _ c.epoch_value-epoch.result _ inv.latest epoch late));
-      grown = grown-twice _ _ _ inv.grown grows;
-      written = line ∙ ap (λ x. c.loop-count.out.items ++ row_text target c.loop-count.last x) c.as_slice-in-loop-count.ensures.value ∙ ap (λ x. x ++ row_text target c.loop-count.last zs) inv.written
-          ∙ ap (λ x. rows_text target None inv.all ++ row_text target x zs) inv.latest ∙ sym (rows-push target None inv.all zs);
-      latest = epoch ∙ sym (last-push target None inv.all zs);
-    }
-
-pub returns-in-Ok-false-clause-encoded : goal.returns-in-Ok-false-clause-encoded
-returns-in-Ok-false-clause-encoded c =
-    let inv = c.loop-count.invariant in
-    let cells : List (List ℕ) = fields_of c.read_byte_record.new.row in
-    let read = subst (λ (found : Bool). ReadRecord (λ (s : Bor (List ℕ)). Some s.now) c.loop-count.reader c.read_byte_record.new.self found cells) c.in-Ok-false.field-0-test (c.in-Ok-false.ensures.reads inv.trim inv.ready) in
-    record {
-      rows = inv.rows;
-      numbers = inv.all;
-      read = (c.loop-count.reader.state, inv.rest, inv.reached, rows-end (λ (s : Bor (List ℕ)). Some s.now) c.loop-count.reader c.read_byte_record.new.self cells default_config inv.rest inv.config inv.source read);
-      spelled = inv.spelled;
-      ordered = inv.ordered;
-      written = inv.written;
-    }
 
 pub returns-in-Err-clause-refused : goal.returns-in-Err-clause-refused
 returns-in-Err-clause-refused c =
-    header-refused (map (λ v. v.items) c.args.names.now) c.args.columns.now c.args.target.epochs c.args.text.now (texts_of c.args.dictionary.now) c.in-Err.fault c.in-Err.ensures.refused
+    header-refused (map (λ v. v.items) c.args.names.now) c.args.columns.now c.args.target.epochs c.args.text.now (texts_of c.args.dictionary.now) c.in-Err.fault
+    (c.in-Err.ensures.refused c.args.text.now c.new_reader-reader.ensures)
 
-pub returns-in-Err-read_row-clause-refused : goal.returns-in-Err-read_row-clause-refused
-returns-in-Err-read_row-clause-refused c =
-    let inv = c.loop-count.invariant in
-    let cells : List (List ℕ) = fields_of c.read_byte_record.new.row in
-    let read = subst (λ (found : Bool). ReadRecord (λ (s : Bor (List ℕ)). Some s.now) c.loop-count.reader c.read_byte_record.new.self found cells) c.in-Ok-true.field-0-test (c.in-Ok-true.ensures.reads inv.trim inv.ready) in
-    let m = rows-more (λ (s : Bor (List ℕ)). Some s.now) c.loop-count.reader c.read_byte_record.new.self cells default_config st.StartRecord (strip_bom c.args.text.now) inv.rest (map (λ v. v.items) c.args.names.now ∷ inv.rows) inv.config inv.source inv.reached read in
-    row-stops (map (λ v. v.items) c.args.names.now) c.args.columns.now c.args.target.epochs c.args.text.now (texts_of c.loop-count.dictionary) (texts_of c.read_row.new.dictionary) inv.rows inv.all cells
-    (c.read_byte_record.new.self.state, m.0, m.2) inv.spelled inv.ordered c.in-Err-read_row.fault c.fault_of_row-fault.result c.fault_of_row-fault.ensures c.in-Err-read_row.ensures.refused c.in-Err-read_row.ensures.kept
+pub returns-in-Err-append_rows-clause-refused : goal.returns-in-Err-append_rows-clause-refused
+returns-in-Err-append_rows-clause-refused c =
+    let read : HasRead c.args.text.now (map (λ v. v.items) c.args.names.now ∷ []) c.read_header.new.reader = at-ok c.read_header.result c.in-Ok.is c.read_header.ensures.found c.args.text.now c.new_reader-reader.ensures in
+    c.in-Err-append_rows.ensures.refused c.args.text.now (map (λ v. v.items) c.args.names.now) read
 
-pub returns-then-is_late-clause-refused : goal.returns-then-is_late-clause-refused
-returns-then-is_late-clause-refused c =
-    let inv = c.loop-count.invariant in
-    let cells : List (List ℕ) = fields_of c.read_byte_record.new.row in
-    let read = subst (λ (found : Bool). ReadRecord (λ (s : Bor (List ℕ)). Some s.now) c.loop-count.reader c.read_byte_record.new.self found cells) c.in-Ok-true.field-0-test (c.in-Ok-true.ensures.reads inv.trim inv.ready) in
-    let m = rows-more (λ (s : Bor (List ℕ)). Some s.now) c.loop-count.reader c.read_byte_record.new.self cells default_config st.StartRecord (strip_bom c.args.text.now) inv.rest (map (λ v. v.items) c.args.names.now ∷ inv.rows) inv.config inv.source inv.reached read in
-    let says : Spells c.args.columns.now (texts_of c.read_row.new.dictionary) cells c.read_row.new.numbers.items = rw c.in-Ok-read_row.is at c.read_row.ensures.spelled in
-    let grows : Grows (texts_of c.loop-count.dictionary) (texts_of c.read_row.new.dictionary) = rw c.in-Ok-read_row.is at c.read_row.ensures.grows in
-    let target = c.args.target in
-    let zs = c.read_row.new.numbers.items in
-    let epoch : c.epoch_value-epoch.result ≡ epoch_of target.epochs zs = c.epoch_value-epoch.ensures ∙ ap (λ x. epoch_of target.epochs x) c.as_slice.ensures.value in
-    let late = now-late _ _ _ _ (sym inv.latest) (sym epoch) (c.is_late.ensures.0 c.if-is_late.true) in
-    let by = late-by target.epochs (last_epoch target None inv.all) zs late in
-    let all : SpellsAll c.args.columns.now (texts_of c.read_row.new.dictionary) inv.rows inv.all = rw grows.1 (all-kept c.args.columns.now (texts_of c.loop-count.dictionary) grows.0 inv.rows inv.all inv.spelled) in
-    rw (c.late_fault-fault.ensures by.0 by.1) (late-refused (map (λ v. v.items) c.args.names.now) c.args.columns.now target.epochs c.args.text.now (texts_of c.read_row.new.dictionary) inv.rows inv.all cells
-    (c.read_byte_record.new.self.state, m.0, m.2) all inv.ordered by.0 zs by.1 says (late-push target None inv.all zs late))
+pub returns-clause-encoded : goal.returns-clause-encoded
+returns-clause-encoded c =
+    let names : List (List ℕ) = map (λ v. v.items) c.args.names.now in
+    let read : HasRead c.args.text.now (names ∷ []) c.read_header.new.reader = at-ok c.read_header.result c.in-Ok.is c.read_header.ensures.found c.args.text.now c.new_reader-reader.ensures in
+    let made = at-ok c.append_rows.result c.in-Ok-append_rows.is c.append_rows.ensures.encoded in
+    let lines : c.append_rows.new.out.items ≡ made.0 = made.1 ∙ ap (λ t. t ++ made.0) c.new-out.ensures.items in
+    subst (λ (t : List ℕ). AreEncoded names c.args.columns.now c.args.target c.args.text.now (texts_of c.append_rows.new.dictionary) t) (sym lines) (made.2 c.args.text.now names read)

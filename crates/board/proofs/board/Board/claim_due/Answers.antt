@@ -3,7 +3,7 @@ use Rattle.semantics.specs.Graph.{Graph}
 use Rattle.semantics.specs.Could.{CouldResultIn, IsTimeAt, Location, NoOtherOf}
 use Rattle.machine.specs.Active.{request_pointstamp}
 use Rattle.machine.specs.World.{Request}
-use Rattle.progress.proofs.Contents.{got_at}
+use Rattle.views.proofs.Contents.{got_at}
 use Rattle.tokens.specs.declared.rule.Place.TheVariants.{Home}
 use Rattle.board.specs.Answers.{Hands}
 use Rattle.board.specs.Claims.{HandsRequest}

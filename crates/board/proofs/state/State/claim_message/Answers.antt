@@ -7,7 +7,7 @@ use Rattle.events.specs.Jobs.{Job}
 use Rattle.events.specs.Wired.{Wired}
 use Rattle.board.specs.WorkerShown.{WorkerShown, sides_of}
 use Rattle.board.specs.Shown.{Shown, Side, side_at, event_at}
-use Rattle.progress.proofs.Contents.{got_at}
+use Rattle.views.proofs.Contents.{got_at}
 use Rattle.board.proofs.Handing.{read_at, hands_message}
 use Rattle.board.proofs.Ready as ready
 use Rattle.board.proofs.state.State.claim_message.Goals as goal

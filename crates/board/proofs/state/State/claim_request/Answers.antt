@@ -5,7 +5,7 @@ use Rattle.tokens.specs.Tokens.{Ticket}
 use Rattle.events.specs.Jobs.{Job}
 use Rattle.board.specs.WorkerShown.{WorkerShown, sides_of}
 use Rattle.board.specs.Shown.{Shown, Side, side_at, event_at}
-use Rattle.progress.proofs.Contents.{got_at}
+use Rattle.views.proofs.Contents.{got_at}
 use Rattle.board.proofs.Handing.{read_at, hands_request}
 use Rattle.board.proofs.Ready as ready
 use Rattle.board.proofs.state.State.claim_request.Goals as goal

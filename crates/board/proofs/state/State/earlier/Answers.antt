@@ -9,7 +9,7 @@ use Rattle.events.specs.Wired.{Wired}
 use Rattle.board.specs.Forgetting.{LooksHere}
 use Rattle.board.specs.WorkerShown.{WorkerShown, sides_of}
 use Rattle.board.specs.Shown.{Shown, Side, side_at}
-use Rattle.progress.proofs.Contents.{got_at}
+use Rattle.views.proofs.Contents.{got_at}
 use Rattle.board.proofs.Handing.{read_at}
 use Rattle.board.proofs.Ready as ready
 use Rattle.board.proofs.state.State.earlier.Goals as goal

@@ -1,6 +1,6 @@
 use Rattle.std.proofs.Common.{◌≡◌, drop, map}
 use Rattle.origins.specs.Relations.{lookup}
-use Rattle.origins.specs.Shown.{entry_of, scope_of}
+use Rattle.origins.specs.Scopes.{entry_of, scope_of}
 use Rattle.origins.proofs.scope.Scope.origins.Given as goal
 
 -- what is left decides

@@ -1,0 +1,13 @@
+pub mod Faults
+pub mod Answers
+pub mod Heeded
+pub mod Graphs
+pub mod Runs
+pub mod Checks
+pub mod InputChecks
+pub mod Formats
+pub mod Scripts
+pub mod Replayed
+pub mod Followed
+pub mod Readings
+pub mod Reported

@@ -1,0 +1,76 @@
+//! A run over texts in memory.
+
+ghost use Rattle.std.specs.Prelude.{◌≡◌, [], IfOk, Some};
+ghost use Rattle.collector.specs.Watching.{inner_of};
+ghost use Rattle.commands.specs.Readings.{RunsOver, read_part};
+ghost use Rattle.commands.specs.Runs.{IsRun};
+
+use crate::run_options::RunOptions;
+use crate::running::run;
+use crate::streams::Streams;
+use collector::Watched;
+use command_line::Workers;
+use diagnostics::{Fault, Texts};
+use execution::{NoGate, Watcher};
+use std::alloc::Global;
+use std::sync::Wait;
+use std::thread::Threads;
+
+/// Where a run writes in memory.
+fn streams_in_memory(alloc: Global) -> Streams<Vec<u8>, Vec<u8>, Vec<u8>>
+    ensures { (inner_of result.out).items ≡ [] }
+{
+    Streams {
+        out: Watched::new(Vec::new(alloc)),
+        err: Vec::new(alloc),
+        watcher: None::<Watcher<Vec<u8>>>,
+    }
+}
+
+/// Runs a query text over an input text in memory. What was read of the input is left in `texts`.
+fn run_in_memory<R: Threads + Wait + Sync>(
+    rt: &R,
+    alloc: Global,
+    workers: Workers,
+    query: &[u8],
+    input: &[u8],
+    texts: &mut Texts,
+    streams: &mut Streams<Vec<u8>, Vec<u8>, Vec<u8>>,
+) -> Result<(), Fault>
+    ensures { RunsOver (Some query.now) (Some input.now) (Some (inner_of streams.old.out).items) (Some (inner_of streams.new.out).items) result }
+{
+    let options = RunOptions {
+        workers,
+        gate: &NoGate,
+        stats: None,
+    };
+    let mut query = Watched::new(query);
+    let mut input = Watched::new(input);
+    run(rt, alloc, options, &mut query, &mut input, texts, streams)
+}
+
+/// The fault of a run in memory: where it couldn't write, memory lacked.
+fn memory_fault(fault: Fault) -> Fault {
+    match fault {
+        Fault::Write => Fault::NoMemory,
+        fault => fault,
+    }
+}
+
+/// The answer of a query text to an input text. What was read of the input is left in `texts`.
+pub fn answer_text<R: Threads + Wait + Sync>(
+    rt: &R,
+    alloc: Global,
+    workers: Workers,
+    query: &[u8],
+    input: &[u8],
+    texts: &mut Texts,
+) -> Result<Vec<u8>, Fault>
+    ensures { IfOk result (λ answer. IsRun (read_part query.now) input.now answer.items) }
+{
+    let mut streams = streams_in_memory(alloc);
+    match run_in_memory(rt, alloc, workers, query, input, texts, &mut streams) {
+        Ok(()) => Ok(streams.out.into_inner()),
+        Err(fault) => Err(memory_fault(fault)),
+    }
+}

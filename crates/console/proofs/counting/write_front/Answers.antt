@@ -1,5 +1,0 @@
-use Rattle.console.proofs.Reporting.{whole_or_front}
-use Rattle.console.proofs.counting.write_front.Goals as goal
-
-pub returns : goal.returns
-returns g c = whole_or_front c.takes_all-whole.result _ _ c.args.text.now c.takes_all-whole.ensures.whole c.takes_all-whole.ensures.front

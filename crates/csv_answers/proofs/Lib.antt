@@ -1,0 +1,4 @@
+pub mod Written
+pub mod Decoded
+pub mod Cut
+pub mod Refused

@@ -1,5 +1,0 @@
-use Rattle.std.specs.Prelude.{length}
-use Rattle.csv_cells.proofs.numbers.+has_digits.Given as goal
-
-abbrev pub decreases-has_digits : goal.decreases-has_digits
-decreases-has_digits l = length l.text.now

@@ -1,7 +1,0 @@
-use Rattle.std.proofs.Common.{◌≡◌, ◌<◌, ◌^◌, drop}
-use Rattle.csv_cells.specs.Numbers.{joined}
-use Rattle.csv_cells.proofs.numbers.joined.Given as goal
-
--- the digits that are left make of the number so far what all make of the first
-abbrev pub invariant-loop-i : goal.invariant-loop-i
-invariant-loop-i l = joined l.start l.digits < 2 ^ 64 → joined l.sum (drop l.i l.digits) ≡ joined l.start l.digits

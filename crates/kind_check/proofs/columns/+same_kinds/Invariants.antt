@@ -1,5 +1,0 @@
-use Rattle.std.proofs.Common.{length}
-use Rattle.kind_check.proofs.columns.+same_kinds.Given as goal
-
-abbrev pub decreases-same_kinds : goal.decreases-same_kinds
-decreases-same_kinds l = length l.left.now

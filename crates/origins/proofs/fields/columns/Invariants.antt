@@ -1,8 +1,0 @@
-use Rattle.std.proofs.Common.{◌≡◌, ◌++◌, ◌-◌}
-use Rattle.origins.specs.Shown.{origins}
-use Rattle.origins.specs.Sources.{columns_from}
-use Rattle.origins.proofs.fields.columns.Given as goal
-
--- so far, and what is left
-abbrev pub invariant-loop-column : goal.invariant-loop-column
-invariant-loop-column l = origins l.fields.items ++ columns_from l.input l.column (l.arity - l.column) ≡ columns_from l.input 0 l.arity

@@ -1,8 +1,0 @@
-use Rattle.std.proofs.Common.{◌≡◌, map, take}
-use Rattle.origins.specs.Shown.{origins}
-use Rattle.origins.specs.Sources.{traced}
-use Rattle.origins.proofs.loops.turned.Given as goal
-
--- so far
-abbrev pub invariant-loop-from : goal.invariant-loop-from
-invariant-loop-from l = origins l.made.items ≡ map (traced l.variable (origins l.fields)) (origins (take l.from-index l.turn))

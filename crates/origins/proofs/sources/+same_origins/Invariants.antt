@@ -1,5 +1,0 @@
-use Rattle.std.proofs.Common.{length}
-use Rattle.origins.proofs.sources.+same_origins.Given as goal
-
-abbrev pub decreases-same_origins : goal.decreases-same_origins
-decreases-same_origins l = length l.left.now

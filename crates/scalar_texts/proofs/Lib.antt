@@ -1,0 +1,5 @@
+pub mod OneText
+pub mod OneNumber
+mod Joined
+mod Spelled
+mod LastDigits

@@ -1,0 +1,4 @@
+pub mod Answered
+pub mod Going
+pub mod Kept
+pub mod Results

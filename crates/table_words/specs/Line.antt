@@ -1,0 +1,69 @@
+-- The words of `encode`, `decode` and `kinds`: the commands, and what the matches of the words hold.
+use Rattle.std.specs.Prelude.{◌≡◌, List, [], Option, Some, None, true, codes, map, option_map}
+use Rattle.clap.specs.Lexer.{usize_max}
+use Rattle.clap.specs.Words.{App, Row, Rule, Text, all_of, first_of, new_app, new_rule, subcommand_of, with_rule, with_subcommand}
+use Rattle.table_words.specs.declared.line.Asked.{Asked}
+use Rattle.table_words.specs.declared.line.Asked.TheVariants.{Encode, Decode, Kinds}
+
+-- a word that has to be given
+abbrev pub word_rule : Text → Rule
+word_rule id = record (new_rule id) { required = true }
+
+-- an option, `--` and its name, and then a word
+abbrev pub named_rule : Text → Rule
+named_rule id = record (new_rule id) { long = Some id; value_names = 1 }
+
+-- one word or more
+abbrev pub words_rule : Text → Rule
+words_rule id = record (word_rule id) { range = Some (record { start_inclusive = 1; end_inclusive = usize_max }) }
+
+-- `encode SCHEMA NAME=FILE ..`, with or without `--dictionary FILE`
+abbrev pub encode_app : App
+encode_app =
+    with_rule (with_rule (with_rule (new_app (codes "encode")) (named_rule (codes "dictionary"))) (word_rule (codes "SCHEMA")))
+    (words_rule (codes "NAME=FILE"))
+
+-- `decode SCHEMA` or `decode SCHEMA ANSWER`, with or without `--dictionary FILE` and `--output NAME`
+abbrev pub decode_app : App
+decode_app =
+    with_rule
+    (with_rule (with_rule (with_rule (new_app (codes "decode")) (named_rule (codes "dictionary"))) (named_rule (codes "output")))
+    (word_rule (codes "SCHEMA")))
+    (new_rule (codes "ANSWER"))
+
+-- `kinds SCHEMA QUERY`
+abbrev pub kinds_app : App
+kinds_app = with_rule (with_rule (new_app (codes "kinds")) (word_rule (codes "SCHEMA"))) (word_rule (codes "QUERY"))
+
+-- the whole line
+abbrev pub line_app : App
+line_app =
+    let top : App = record { top = record (new_app (codes "loom")).top { subcommand_required = true }; subs = [] } in
+    with_subcommand (with_subcommand (with_subcommand top encode_app.top) decode_app.top) kinds_app.top
+
+-- the answer that is named; standard input where none is
+abbrev pub IsAskedAnswer : Option Text → Text → Type 0
+IsAskedAnswer None answer = answer ≡ codes "-"
+IsAskedAnswer (Some word) answer = answer ≡ word
+
+-- what is asked for is what the matches of a command hold
+abbrev pub HoldsAt : Text → List Row → Asked → Type 0
+HoldsAt name rows (Encode schema files dictionary) =
+    (name ≡ codes "encode") × (first_of (codes "SCHEMA") rows ≡ Some schema.now)
+    × (all_of (codes "NAME=FILE") rows ≡ Some (map (λ s. s.now) files.items))
+    × (option_map (λ s. s.now) dictionary ≡ first_of (codes "dictionary") rows)
+HoldsAt name rows (Decode asked) =
+    (name ≡ codes "decode") × (first_of (codes "SCHEMA") rows ≡ Some asked.schema.now)
+    × IsAskedAnswer (first_of (codes "ANSWER") rows) asked.answer.now
+    × (option_map (λ s. s.now) asked.dictionary ≡ first_of (codes "dictionary") rows)
+    × (option_map (λ s. s.now) asked.output ≡ first_of (codes "output") rows)
+HoldsAt name rows (Kinds asked) =
+    (name ≡ codes "kinds") × (first_of (codes "SCHEMA") rows ≡ Some asked.schema.now) × (first_of (codes "QUERY") rows ≡ Some asked.query.now)
+
+abbrev pub HoldsOf : Option (Text × List Row) → Asked → Type 0
+HoldsOf None asked = ⊥
+HoldsOf (Some found) asked = HoldsAt found.0 found.1 asked
+
+-- the words ask for this: it is what their matches hold
+abbrev pub Asks : List Text → Asked → Type 0
+Asks words asked = HoldsOf (subcommand_of line_app words) asked

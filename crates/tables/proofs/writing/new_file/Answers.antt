@@ -1,8 +1,0 @@
-use Rattle.std.proofs.Common.{◌∙◌, refl}
-use Rattle.tables.proofs.Written.{no-records}
-use Rattle.tables.proofs.writing.new_file.Goals as goal
-
-pub returns : goal.returns
-returns c =
-    let e = c.from_writer.ensures in
-    no-records c.from_writer.result (record { setup = e.cfg ∙ c.new.ensures; fields = e.fields; nothing = e.wrote }) (rw (e.wtr, e.empty, c.new-2.ensures.items) refl)
