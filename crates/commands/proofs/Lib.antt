@@ -8,4 +8,4 @@ pub mod ReplayedText
 pub mod Heeding
 pub mod OneAnswer
 pub mod HandedOver
-mod InMemory
+mod AppendedAnswer

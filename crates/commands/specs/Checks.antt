@@ -4,8 +4,7 @@ use Rattle.std.specs.Io.KnownBytes.{Appends}
 use Rattle.collector.specs.WrittenBytes.{AppendsFront}
 use Rattle.compile.specs.Checked.{IsCheckFault, IsChecked}
 use Rattle.diagnostics.specs.declared.fault.Fault.{Fault}
-use Rattle.diagnostics.specs.declared.fault.Fault.TheVariants.{Query, TooManyVertices, Input, Schedule, NoMemory, Count}
-use Rattle.diagnostics.specs.declared.fault.Fault.TheVariants.{NoWorker, Incomplete, ReadQuery, ReadInput, Write}
+use Rattle.diagnostics.specs.declared.fault.Fault.TheVariants.{Query, NoMemory, ReadQuery, Write}
 
 -- The arities are written whole at Ok, and a beginning of them where the writer failed. Else nothing is written: the query is
 -- refused, or its reader failed, or there was no memory.
@@ -15,10 +14,4 @@ CheckEnds query old new (Err Write) = (text : List ℕ) × IsChecked query text 
 CheckEnds query old new (Err (Query code start end)) = (new ≡ old) × IsCheckFault query (Query code start end)
 CheckEnds query old new (Err NoMemory) = new ≡ old
 CheckEnds query old new (Err ReadQuery) = new ≡ old
-CheckEnds query old new (Err ReadInput) = ⊥
-CheckEnds query old new (Err TooManyVertices) = ⊥
-CheckEnds query old new (Err (Input code line)) = ⊥
-CheckEnds query old new (Err (Schedule code line)) = ⊥
-CheckEnds query old new (Err Count) = ⊥
-CheckEnds query old new (Err NoWorker) = ⊥
-CheckEnds query old new (Err Incomplete) = ⊥
+CheckEnds query old new (Err _) = ⊥

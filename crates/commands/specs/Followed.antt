@@ -11,8 +11,8 @@ use Rattle.follow.specs.declared.outcome.Ending.{Ending}
 use Rattle.follow.specs.declared.outcome.Ending.TheVariants as ending
 use Rattle.compile.specs.Compiled.{IsCompiled, IsQueryFault}
 use Rattle.diagnostics.specs.declared.fault.Fault.{Fault}
-use Rattle.diagnostics.specs.declared.fault.Fault.TheVariants.{Query, TooManyVertices, Input, Schedule, NoMemory, Count}
-use Rattle.diagnostics.specs.declared.fault.Fault.TheVariants.{NoWorker, Incomplete, ReadQuery, ReadInput, Write}
+use Rattle.diagnostics.specs.declared.fault.Fault.TheVariants.{Query, TooManyVertices, Input, NoMemory, Count}
+use Rattle.diagnostics.specs.declared.fault.Fault.TheVariants.{Incomplete, ReadQuery, ReadInput, Write}
 
 -- the graph is that of the query's text
 abbrev pub IsGraphOfText : List ℕ → GraphValue → Type 0
@@ -59,5 +59,4 @@ FollowEnds offset query read old new (Err Incomplete) = IsFollowed offset query 
 FollowEnds offset query read old new (Err (Query code start end)) = (new ≡ old) × IsQueryFault query (Query code start end)
 FollowEnds offset query read old new (Err TooManyVertices) = (new ≡ old) × IsQueryFault query TooManyVertices
 FollowEnds offset query read old new (Err ReadQuery) = new ≡ old
-FollowEnds offset query read old new (Err (Schedule code line)) = ⊥
-FollowEnds offset query read old new (Err NoWorker) = ⊥
+FollowEnds offset query read old new (Err _) = ⊥

@@ -4,8 +4,7 @@ use Rattle.std.specs.Io.KnownBytes.{Appends}
 use Rattle.collector.specs.WrittenBytes.{AppendsFront}
 use Rattle.compile.specs.Canonical.{IsCanonical, IsFormatFault}
 use Rattle.diagnostics.specs.declared.fault.Fault.{Fault}
-use Rattle.diagnostics.specs.declared.fault.Fault.TheVariants.{Query, TooManyVertices, Input, Schedule, NoMemory, Count}
-use Rattle.diagnostics.specs.declared.fault.Fault.TheVariants.{NoWorker, Incomplete, ReadQuery, ReadInput, Write}
+use Rattle.diagnostics.specs.declared.fault.Fault.TheVariants.{Query, NoMemory, ReadQuery, Write}
 
 -- The canonical text is written whole at Ok, and a beginning of it where the writer failed. Else nothing is written: the query is no
 -- program, or its reader failed, or there was no memory.
@@ -15,10 +14,4 @@ FormatEnds query old new (Err Write) = (text : List ℕ) × IsCanonical query te
 FormatEnds query old new (Err (Query code start end)) = (new ≡ old) × IsFormatFault query (Query code start end)
 FormatEnds query old new (Err NoMemory) = new ≡ old
 FormatEnds query old new (Err ReadQuery) = new ≡ old
-FormatEnds query old new (Err ReadInput) = ⊥
-FormatEnds query old new (Err TooManyVertices) = ⊥
-FormatEnds query old new (Err (Input code line)) = ⊥
-FormatEnds query old new (Err (Schedule code line)) = ⊥
-FormatEnds query old new (Err Count) = ⊥
-FormatEnds query old new (Err NoWorker) = ⊥
-FormatEnds query old new (Err Incomplete) = ⊥
+FormatEnds query old new (Err _) = ⊥

@@ -9,8 +9,7 @@ use Rattle.compile.specs.Compiled.{IsCompiled, IsQueryFault}
 use Rattle.command_line.specs.declared.line_options.GraphForm.{GraphForm}
 use Rattle.command_line.specs.declared.line_options.GraphForm.TheVariants.{Lines, Dot}
 use Rattle.diagnostics.specs.declared.fault.Fault.{Fault}
-use Rattle.diagnostics.specs.declared.fault.Fault.TheVariants.{Query, TooManyVertices, Input, Schedule, NoMemory, Count}
-use Rattle.diagnostics.specs.declared.fault.Fault.TheVariants.{NoWorker, Incomplete, ReadQuery, ReadInput, Write}
+use Rattle.diagnostics.specs.declared.fault.Fault.TheVariants.{Query, TooManyVertices, NoMemory, ReadQuery, Write}
 
 -- the text is that of a graph in this form; what Graphviz draws is left open
 abbrev pub IsTextIn : GraphForm → (outputs : List Name) → Graph → List ℕ → Type 0
@@ -34,9 +33,4 @@ GraphEnds form query old new (Err (Query code start end)) = (new ≡ old) × IsQ
 GraphEnds form query old new (Err TooManyVertices) = (new ≡ old) × IsQueryFault query TooManyVertices
 GraphEnds form query old new (Err NoMemory) = new ≡ old
 GraphEnds form query old new (Err ReadQuery) = new ≡ old
-GraphEnds form query old new (Err ReadInput) = ⊥
-GraphEnds form query old new (Err (Input code line)) = ⊥
-GraphEnds form query old new (Err (Schedule code line)) = ⊥
-GraphEnds form query old new (Err Count) = ⊥
-GraphEnds form query old new (Err NoWorker) = ⊥
-GraphEnds form query old new (Err Incomplete) = ⊥
+GraphEnds form query old new (Err _) = ⊥

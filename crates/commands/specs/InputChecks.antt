@@ -4,8 +4,7 @@ use Rattle.std.specs.Io.KnownBytes.{Appends}
 use Rattle.collector.specs.WrittenBytes.{AppendsFront}
 use Rattle.compile.specs.CheckedInputs.{IsCheckedInput, IsInputCheckFault}
 use Rattle.diagnostics.specs.declared.fault.Fault.{Fault}
-use Rattle.diagnostics.specs.declared.fault.Fault.TheVariants.{Query, TooManyVertices, Input, Schedule, NoMemory, Count}
-use Rattle.diagnostics.specs.declared.fault.Fault.TheVariants.{NoWorker, Incomplete, ReadQuery, ReadInput, Write}
+use Rattle.diagnostics.specs.declared.fault.Fault.TheVariants.{Query, Input, NoMemory, ReadQuery, ReadInput, Write}
 
 -- The arities are written whole at Ok, and a beginning of them where the writer failed. Else nothing is written: the query is
 -- refused, or the input, or a reader failed, or there was no memory.
@@ -17,8 +16,4 @@ CheckInputEnds query input old new (Err (Input code line)) = (new ≡ old) × Is
 CheckInputEnds query input old new (Err NoMemory) = new ≡ old
 CheckInputEnds query input old new (Err ReadQuery) = new ≡ old
 CheckInputEnds query input old new (Err ReadInput) = new ≡ old
-CheckInputEnds query input old new (Err TooManyVertices) = ⊥
-CheckInputEnds query input old new (Err (Schedule code line)) = ⊥
-CheckInputEnds query input old new (Err Count) = ⊥
-CheckInputEnds query input old new (Err NoWorker) = ⊥
-CheckInputEnds query input old new (Err Incomplete) = ⊥
+CheckInputEnds query input old new (Err _) = ⊥

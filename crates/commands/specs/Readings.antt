@@ -1,5 +1,5 @@
 -- What is read of the texts, how the commands end on it where the bytes are known, and what is kept of it.
-use Rattle.std.specs.Prelude.{◌≡◌, ◌⊎◌, ℕ, suc, true, List, length, take, Option, Result, IfErr, IfSome, MatchResult}
+use Rattle.std.specs.Prelude.{◌≡◌, ◌⊎◌, ℕ, suc, true, List, length, Option, Result, IfErr, IfSome, MatchResult}
 use Rattle.lexer.specs.Tokens.{max_length}
 use Rattle.collector.specs.Watching.{Hands, HandsAll, has_ended, inner_of}
 use Rattle.collector.specs.declared.watched.Watched.{Watched}
@@ -17,14 +17,7 @@ use Rattle.commands.specs.Heeded.{Heeds}
 use Rattle.commands.specs.InputChecks.{CheckInputEnds}
 use Rattle.commands.specs.Replayed.{ReplayEnds}
 use Rattle.commands.specs.Runs.{Ends, IsUnreadInput, IsUnreadQuery}
-
--- the bytes of the text of each name, where they are known
-abbrev pub Known : Type 0
-Known = List ℕ → Option (List ℕ)
-
--- what is read of a query: one byte more than it may have is enough to show that it is too long
-abbrev pub read_part : List ℕ → List ℕ
-read_part text = take (suc max_length) text
+pub use Rattle.query_answers.specs.Runs.{Known, read_part}
 
 -- each command ends so, on the bytes of its texts where they are known
 abbrev pub RunsOver : (query input : Option (List ℕ)) → Option (List ℕ) → Option (List ℕ) → Result (Unit {0}) Fault → Type 0

@@ -13,8 +13,7 @@ use Rattle.replay.specs.Replays.{KeepsPromise, PrintsOutput, Replays, Setting}
 use Rattle.replay.specs.Waits.{State, at_first}
 use Rattle.compile.specs.Compiled.{IsCompiled, IsQueryFault, IsTaken}
 use Rattle.diagnostics.specs.declared.fault.Fault.{Fault}
-use Rattle.diagnostics.specs.declared.fault.Fault.TheVariants.{Query, TooManyVertices, Input, Schedule, NoMemory, Count}
-use Rattle.diagnostics.specs.declared.fault.Fault.TheVariants.{NoWorker, Incomplete, ReadQuery, ReadInput, Write}
+use Rattle.diagnostics.specs.declared.fault.Fault.TheVariants.{Query, TooManyVertices, Schedule, NoMemory, ReadQuery, ReadInput, Write}
 
 -- over the graph of the query, that many workers with views of that kind lead the schedule's commands from the opening world on, and the text
 -- is what they print
@@ -41,13 +40,7 @@ IsReplayFault query kind schedule (Query code start end) = IsQueryFault query (Q
 IsReplayFault query kind schedule TooManyVertices = IsQueryFault query TooManyVertices
 IsReplayFault query kind schedule (Schedule code line) = IsTaken query × IsRefused kind schedule (At code line)
 IsReplayFault query kind schedule NoMemory = Unit {0}
-IsReplayFault query kind schedule (Input code line) = ⊥
-IsReplayFault query kind schedule Count = ⊥
-IsReplayFault query kind schedule NoWorker = ⊥
-IsReplayFault query kind schedule Incomplete = ⊥
-IsReplayFault query kind schedule ReadQuery = ⊥
-IsReplayFault query kind schedule ReadInput = ⊥
-IsReplayFault query kind schedule Write = ⊥
+IsReplayFault query kind schedule _ = ⊥
 
 -- The text is written whole at Ok, and a beginning of it where the writer failed. Else nothing is written: the query is refused, or
 -- the schedule, or a reader failed, or there was no memory.
@@ -60,7 +53,4 @@ ReplayEnds query workers kind schedule old new (Err (Schedule code line)) = (new
 ReplayEnds query workers kind schedule old new (Err NoMemory) = new ≡ old
 ReplayEnds query workers kind schedule old new (Err ReadQuery) = new ≡ old
 ReplayEnds query workers kind schedule old new (Err ReadInput) = new ≡ old
-ReplayEnds query workers kind schedule old new (Err (Input code line)) = ⊥
-ReplayEnds query workers kind schedule old new (Err Count) = ⊥
-ReplayEnds query workers kind schedule old new (Err NoWorker) = ⊥
-ReplayEnds query workers kind schedule old new (Err Incomplete) = ⊥
+ReplayEnds query workers kind schedule old new (Err _) = ⊥

@@ -5,22 +5,13 @@ use Rattle.semantics.specs.Multiset.{Record}
 use Rattle.semantics.specs.Query.{Program}
 use Rattle.collector.specs.InputText.{IsInputText}
 use Rattle.collector.specs.WrittenBytes.{AppendsFront}
-use Rattle.commands.specs.Answers.{IsAnswer}
+pub use Rattle.query_answers.specs.Runs.{IsRun}
 use Rattle.compile.specs.CheckedInputs.{IsInputFault}
 use Rattle.compile.specs.Compiled.{IsQueryFault}
 use Rattle.compile.specs.Queries.{IsQuery}
 use Rattle.diagnostics.specs.declared.fault.Fault.{Fault}
 use Rattle.diagnostics.specs.declared.fault.Fault.TheVariants.{Query, TooManyVertices, Input, Schedule, NoMemory, Count}
 use Rattle.diagnostics.specs.declared.fault.Fault.TheVariants.{NoWorker, Incomplete, ReadQuery, ReadInput, Write}
-
--- the text is the answer of the query to the input
-pub record IsRun (query input text : List ℕ) : Type 0 where
-  pub program : Program
-  pub count : ℕ
-  pub records : ℕ → ℕ → List Record
-  pub reads : IsQuery query program
-  pub epochs : IsInputText program.inputs input count records
-  pub answer : IsAnswer program count records text
 
 -- the query is taken, and the input for its inputs
 pub record AreTaken (query input : List ℕ) : Type 0 where
@@ -50,40 +41,16 @@ Ends query input old new (Err Incomplete) = new ≡ old
 abbrev pub IsUnreadQuery : Fault → Type 0
 IsUnreadQuery NoMemory = Unit {0}
 IsUnreadQuery ReadQuery = Unit {0}
-IsUnreadQuery ReadInput = ⊥
-IsUnreadQuery (Query code start end) = ⊥
-IsUnreadQuery TooManyVertices = ⊥
-IsUnreadQuery (Input code line) = ⊥
-IsUnreadQuery (Schedule code line) = ⊥
-IsUnreadQuery Count = ⊥
-IsUnreadQuery NoWorker = ⊥
-IsUnreadQuery Incomplete = ⊥
-IsUnreadQuery Write = ⊥
+IsUnreadQuery _ = ⊥
 
 -- the input or the schedule could not be read, or there was no memory
 abbrev pub IsUnreadInput : Fault → Type 0
 IsUnreadInput NoMemory = Unit {0}
-IsUnreadInput ReadQuery = ⊥
 IsUnreadInput ReadInput = Unit {0}
-IsUnreadInput (Query code start end) = ⊥
-IsUnreadInput TooManyVertices = ⊥
-IsUnreadInput (Input code line) = ⊥
-IsUnreadInput (Schedule code line) = ⊥
-IsUnreadInput Count = ⊥
-IsUnreadInput NoWorker = ⊥
-IsUnreadInput Incomplete = ⊥
-IsUnreadInput Write = ⊥
+IsUnreadInput _ = ⊥
 
 -- it came once both texts were read
 abbrev pub IsAfterReading : Fault → Type 0
-IsAfterReading NoMemory = Unit {0}
 IsAfterReading ReadQuery = ⊥
 IsAfterReading ReadInput = ⊥
-IsAfterReading (Query code start end) = Unit {0}
-IsAfterReading TooManyVertices = Unit {0}
-IsAfterReading (Input code line) = Unit {0}
-IsAfterReading (Schedule code line) = Unit {0}
-IsAfterReading Count = Unit {0}
-IsAfterReading NoWorker = Unit {0}
-IsAfterReading Incomplete = Unit {0}
-IsAfterReading Write = Unit {0}
+IsAfterReading _ = Unit {0}

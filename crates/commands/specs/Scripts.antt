@@ -5,8 +5,7 @@ use Rattle.collector.specs.WrittenBytes.{AppendsFront}
 use Rattle.compile.specs.Scripts.{IsScript, IsScriptFault}
 use Rattle.sql.specs.Asked.{Asked}
 use Rattle.diagnostics.specs.declared.fault.Fault.{Fault}
-use Rattle.diagnostics.specs.declared.fault.Fault.TheVariants.{Query, TooManyVertices, Input, Schedule, NoMemory, Count}
-use Rattle.diagnostics.specs.declared.fault.Fault.TheVariants.{NoWorker, Incomplete, ReadQuery, ReadInput, Write}
+use Rattle.diagnostics.specs.declared.fault.Fault.TheVariants.{Query, NoMemory, ReadQuery, Write}
 
 -- The script is written whole at Ok, and a beginning of it where the writer failed. Else nothing is written: the query is refused, or takes
 -- too many tables, or lacks what is asked for, or its reader failed, or there was no memory.
@@ -16,10 +15,4 @@ ScriptEnds a query old new (Err Write) = (text : List ℕ) × IsScript a query t
 ScriptEnds a query old new (Err (Query code start end)) = (new ≡ old) × IsScriptFault a query (Query code start end)
 ScriptEnds a query old new (Err NoMemory) = new ≡ old
 ScriptEnds a query old new (Err ReadQuery) = new ≡ old
-ScriptEnds a query old new (Err ReadInput) = ⊥
-ScriptEnds a query old new (Err TooManyVertices) = ⊥
-ScriptEnds a query old new (Err (Input code line)) = ⊥
-ScriptEnds a query old new (Err (Schedule code line)) = ⊥
-ScriptEnds a query old new (Err Count) = ⊥
-ScriptEnds a query old new (Err NoWorker) = ⊥
-ScriptEnds a query old new (Err Incomplete) = ⊥
+ScriptEnds a query old new (Err _) = ⊥

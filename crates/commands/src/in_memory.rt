@@ -1,9 +1,8 @@
 //! A run over texts in memory.
 
-ghost use Rattle.std.specs.Prelude.{◌≡◌, [], IfOk, Some};
+ghost use Rattle.std.specs.Prelude.{◌≡◌, [], Some};
 ghost use Rattle.collector.specs.Watching.{inner_of};
-ghost use Rattle.commands.specs.Readings.{RunsOver, read_part};
-ghost use Rattle.commands.specs.Runs.{IsRun};
+ghost use Rattle.commands.specs.Readings.{RunsOver};
 
 use crate::run_options::RunOptions;
 use crate::running::run;
@@ -12,6 +11,7 @@ use collector::Watched;
 use command_line::Workers;
 use diagnostics::{Fault, Texts};
 use execution::{NoGate, Watcher};
+use query_answers::Answering;
 use std::alloc::Global;
 use std::sync::Wait;
 use std::thread::Threads;
@@ -57,20 +57,36 @@ fn memory_fault(fault: Fault) -> Fault {
     }
 }
 
-/// The answer of a query text to an input text. What was read of the input is left in `texts`.
-pub fn answer_text<R: Threads + Wait + Sync>(
-    rt: &R,
-    alloc: Global,
-    workers: Workers,
-    query: &[u8],
-    input: &[u8],
-    texts: &mut Texts,
-) -> Result<Vec<u8>, Fault>
-    ensures { IfOk result (λ answer. IsRun (read_part query.now) input.now answer.items) }
-{
-    let mut streams = streams_in_memory(alloc);
-    match run_in_memory(rt, alloc, workers, query, input, texts, &mut streams) {
-        Ok(()) => Ok(streams.out.into_inner()),
-        Err(fault) => Err(memory_fault(fault)),
+/// The engine of the commands, over texts in memory.
+#[derive(Drop)]
+pub struct InMemory<'a, R> {
+    rt: &'a R,
+}
+
+impl<'a, R> InMemory<'a, R> {
+    /// `rt` permits starting threads, and not returning until all work is done.
+    pub fn new(rt: &'a R) -> InMemory<'a, R> {
+        InMemory { rt }
+    }
+}
+
+impl<'a, R: Threads + Wait + Sync> Answering for InMemory<'a, R> {
+    ghost use Rattle.std.specs.Thread.{IsSync};
+
+    ghost is_usable = { IsSync R.row };
+
+    fn answer_text(
+        &self,
+        alloc: Global,
+        workers: Workers,
+        query: &[u8],
+        input: &[u8],
+        texts: &mut Texts,
+    ) -> Result<Vec<u8>, Fault> {
+        let mut streams = streams_in_memory(alloc);
+        match run_in_memory(self.rt, alloc, workers, query, input, texts, &mut streams) {
+            Ok(()) => Ok(streams.out.into_inner()),
+            Err(fault) => Err(memory_fault(fault)),
+        }
     }
 }

@@ -3,7 +3,7 @@
 //! | Call | Reads | Writes |
 //! |---|---|---|
 //! | `run` | a query and an input | the answer, and if asked what each vertex did |
-//! | `answer_text` | the same, in memory | nothing: the answer is given back |
+//! | `InMemory` | the same, in memory | nothing: the answer is given back |
 //! | `follow_query` | the same | the answer, while the input still comes |
 //! | `check_query`, `check_input` | a query, and an input too | the query's arities |
 //! | `graph_query` | a query | its graph, which crate `compile` makes |
@@ -40,7 +40,7 @@ pub use execution::{Gate, NoGate, Telling, Watcher};
 pub use following::follow_query;
 pub use formatting::format_query;
 pub use graphing::graph_query;
-pub use in_memory::answer_text;
+pub use in_memory::InMemory;
 pub use input_check::check_input;
 pub use laws::{law_followed, law_one_answer, law_replayed};
 pub use replaying::replay_schedule;

@@ -8,8 +8,7 @@ use Rattle.writer.specs.Programs.{program_text}
 use Rattle.writer.specs.Sources.{ReadsAs}
 use Rattle.lexer.specs.Tokens.{max_length}
 use Rattle.diagnostics.specs.declared.fault.Fault.{Fault}
-use Rattle.diagnostics.specs.declared.fault.Fault.TheVariants.{Query, TooManyVertices, Input, Schedule, NoMemory, Count}
-use Rattle.diagnostics.specs.declared.fault.Fault.TheVariants.{NoWorker, Incomplete, ReadQuery, ReadInput, Write}
+use Rattle.diagnostics.specs.declared.fault.Fault.TheVariants.{Query, NoMemory}
 
 -- The query text reads as a program, and the text is its canonical text. Where that is no longer than a query may be, it reads as the
 -- same program, spans aside.
@@ -23,12 +22,4 @@ pub record IsCanonical (query text : List ℕ) : Type 0 where
 abbrev pub IsFormatFault : List ℕ → Fault → Type 0
 IsFormatFault query (Query code start end) = parser.Refuses query (At code (record { start = start; end = end }))
 IsFormatFault query NoMemory = Unit {0}
-IsFormatFault query TooManyVertices = ⊥
-IsFormatFault query (Input code line) = ⊥
-IsFormatFault query (Schedule code line) = ⊥
-IsFormatFault query Count = ⊥
-IsFormatFault query NoWorker = ⊥
-IsFormatFault query Incomplete = ⊥
-IsFormatFault query ReadQuery = ⊥
-IsFormatFault query ReadInput = ⊥
-IsFormatFault query Write = ⊥
+IsFormatFault query _ = ⊥

@@ -10,8 +10,7 @@ use Rattle.grammar.specs.Texts as grammar
 use Rattle.record_core.specs.declared.span.Refusal.TheVariants.{At}
 use Rattle.compile.specs.Queries.{IsRefusal}
 use Rattle.diagnostics.specs.declared.fault.Fault.{Fault}
-use Rattle.diagnostics.specs.declared.fault.Fault.TheVariants.{Query, TooManyVertices, Input as InputFault, Schedule, NoMemory}
-use Rattle.diagnostics.specs.declared.fault.Fault.TheVariants.{Count, NoWorker, Incomplete, ReadQuery, ReadInput, Write}
+use Rattle.diagnostics.specs.declared.fault.Fault.TheVariants.{Query, NoMemory}
 
 -- `input NAME/ARITY`
 abbrev pub input_line : Input → List ℕ
@@ -51,12 +50,4 @@ pub record IsChecked (query text : List ℕ) : Type 0 where
 abbrev pub IsCheckFault : List ℕ → Fault → Type 0
 IsCheckFault query (Query code start end) = IsRefusal query (At code (record { start = start; end = end }))
 IsCheckFault query NoMemory = Unit {0}
-IsCheckFault query TooManyVertices = ⊥
-IsCheckFault query (InputFault code line) = ⊥
-IsCheckFault query (Schedule code line) = ⊥
-IsCheckFault query Count = ⊥
-IsCheckFault query NoWorker = ⊥
-IsCheckFault query Incomplete = ⊥
-IsCheckFault query ReadQuery = ⊥
-IsCheckFault query ReadInput = ⊥
-IsCheckFault query Write = ⊥
+IsCheckFault query _ = ⊥

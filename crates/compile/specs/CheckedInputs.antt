@@ -9,8 +9,7 @@ use Rattle.collector.specs.declared.refusal.InputRefusal.TheVariants.{At}
 use Rattle.compile.specs.Checked.{IsChecked}
 use Rattle.compile.specs.Queries.{IsQuery, IsRefusal}
 use Rattle.diagnostics.specs.declared.fault.Fault.{Fault}
-use Rattle.diagnostics.specs.declared.fault.Fault.TheVariants.{Query, TooManyVertices, Input, Schedule, NoMemory, Count}
-use Rattle.diagnostics.specs.declared.fault.Fault.TheVariants.{NoWorker, Incomplete, ReadQuery, ReadInput, Write}
+use Rattle.diagnostics.specs.declared.fault.Fault.TheVariants.{Query, Input, NoMemory}
 
 -- the text lists the inputs and the arities of the query, and the input text is one of some epochs for those inputs
 pub record IsCheckedInput (query input text : List ℕ) : Type 0 where
@@ -28,11 +27,4 @@ abbrev pub IsInputCheckFault : List ℕ → List ℕ → Fault → Type 0
 IsInputCheckFault query input (Query code start end) = IsRefusal query (refusal.At code (record { start = start; end = end }))
 IsInputCheckFault query input (Input code line) = IsInputFault query input code line
 IsInputCheckFault query input NoMemory = Unit {0}
-IsInputCheckFault query input TooManyVertices = ⊥
-IsInputCheckFault query input (Schedule code line) = ⊥
-IsInputCheckFault query input Count = ⊥
-IsInputCheckFault query input NoWorker = ⊥
-IsInputCheckFault query input Incomplete = ⊥
-IsInputCheckFault query input ReadQuery = ⊥
-IsInputCheckFault query input ReadInput = ⊥
-IsInputCheckFault query input Write = ⊥
+IsInputCheckFault query input _ = ⊥

@@ -11,8 +11,7 @@ use Rattle.compile.specs.Queries.{IsQuery, IsRefusal, output_names}
 use Rattle.compile.specs.declared.fault.CompileFault.{CompileFault}
 use Rattle.compile.specs.declared.fault.CompileFault.TheVariants as compile
 use Rattle.diagnostics.specs.declared.fault.Fault.{Fault}
-use Rattle.diagnostics.specs.declared.fault.Fault.TheVariants.{Query, TooManyVertices, Input as InputFault, Schedule, NoMemory}
-use Rattle.diagnostics.specs.declared.fault.Fault.TheVariants.{Count, NoWorker, Incomplete, ReadQuery, ReadInput, Write}
+use Rattle.diagnostics.specs.declared.fault.Fault.TheVariants.{Query, TooManyVertices, NoMemory}
 
 -- The text is a well-typed program with these inputs and outputs of these names. The graph is the one that the definition makes of the
 -- normal form that the program rewrites to.
@@ -50,11 +49,4 @@ abbrev pub IsQueryFault : List ℕ → Fault → Type 0
 IsQueryFault text (Query code start end) = IsRefusal text (At code (record { start = start; end = end }))
 IsQueryFault text TooManyVertices = IsTooLarge text
 IsQueryFault text NoMemory = Unit {0}
-IsQueryFault text (InputFault code line) = ⊥
-IsQueryFault text (Schedule code line) = ⊥
-IsQueryFault text Count = ⊥
-IsQueryFault text NoWorker = ⊥
-IsQueryFault text Incomplete = ⊥
-IsQueryFault text ReadQuery = ⊥
-IsQueryFault text ReadInput = ⊥
-IsQueryFault text Write = ⊥
+IsQueryFault text _ = ⊥

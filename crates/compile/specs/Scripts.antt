@@ -9,8 +9,7 @@ use Rattle.sql.specs.Asked.{Asked, has_layout, has_output}
 use Rattle.sql.specs.Limits.{asked_count}
 use Rattle.compile.specs.Queries.{IsQuery, IsRefusal}
 use Rattle.diagnostics.specs.declared.fault.Fault.{Fault}
-use Rattle.diagnostics.specs.declared.fault.Fault.TheVariants.{Query, TooManyVertices, Input, Schedule, NoMemory, Count}
-use Rattle.diagnostics.specs.declared.fault.Fault.TheVariants.{NoWorker, Incomplete, ReadQuery, ReadInput, Write}
+use Rattle.diagnostics.specs.declared.fault.Fault.TheVariants.{Query, NoMemory}
 
 -- the query text is a well-typed program that has the output that is asked for, one where it is a statement, and the text is that of its script
 abbrev pub IsScript : Asked → (query text : List ℕ) → Type 0
@@ -35,12 +34,4 @@ IsScriptFault a query (Query code start end) =
     IsRefusal query (At code (record { start = start; end = end })) ⊎ ((code ≡ TOO_MANY_TABLES) × HasTooManyTables a query
     ⊎ ((code ≡ NO_SUCH_OUTPUT) × LacksOutput a.output query ⊎ (code ≡ SEVERAL_OUTPUTS) × LacksLayout a query))
 IsScriptFault a query NoMemory = Unit {0}
-IsScriptFault a query TooManyVertices = ⊥
-IsScriptFault a query (Input code line) = ⊥
-IsScriptFault a query (Schedule code line) = ⊥
-IsScriptFault a query Count = ⊥
-IsScriptFault a query NoWorker = ⊥
-IsScriptFault a query Incomplete = ⊥
-IsScriptFault a query ReadQuery = ⊥
-IsScriptFault a query ReadInput = ⊥
-IsScriptFault a query Write = ⊥
+IsScriptFault a query _ = ⊥

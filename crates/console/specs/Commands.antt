@@ -108,10 +108,4 @@ pub record IsAnswered (queries : Known) (read : Transcripts) (query_name input_n
 -- the options are of a run of a query and an input of these names, which may have to end with the mark
 abbrev pub AsksRun : Options → (query input : List ℕ) → (marked : Bool) → Type 0
 AsksRun (Run query input workers watch stats end_mark explain) q i m = (q ≡ query_word query) × (i ≡ input.now) × (m ≡ end_mark)
-AsksRun (Follow query input workers first end_mark explain) q i m = ⊥
-AsksRun (Check query input heap explain) q i m = ⊥
-AsksRun (Graph query form heap explain) q i m = ⊥
-AsksRun (Format query explain) q i m = ⊥
-AsksRun (Sql query form epochs output explain) q i m = ⊥
-AsksRun (Replay query schedule workers views explain) q i m = ⊥
-AsksRun (Explain code) q i m = ⊥
+AsksRun _ q i m = ⊥

@@ -14,9 +14,9 @@ mod transcripts;
 pub use collector::Sources;
 pub use command_line::{FirstEpoch, GraphForm, HeapSize, LineFault, Options, Query, Workers};
 pub use commands::{
-    Fault, FollowOptions, Gate, NoGate, RunOptions, Streams, Telling, Texts, ViewKind, Watcher,
-    check_input, check_query, follow_query, format_query, graph_query, replay_schedule, run,
-    script_query,
+    Fault, FollowOptions, Gate, InMemory, NoGate, RunOptions, Streams, Telling, Texts, ViewKind,
+    Watcher, check_input, check_query, follow_query, format_query, graph_query, replay_schedule,
+    run, script_query,
 };
 pub use compile::{Arithmetic, CompileFault, Form, Request, compile, law_one_graph};
 pub use disk::{Disk, DiskText};

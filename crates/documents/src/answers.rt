@@ -1,7 +1,7 @@
 //! What `./loom` prints, by the call that the program `loom` makes.
 
 use collector::Watched;
-use console::{Disk, DiskText, Sources, Streams, Telling, Transcripts, Watcher, answer};
+use console::{Disk, DiskText, InMemory, Sources, Streams, Telling, Transcripts, Watcher, answer};
 use std::io;
 use std::io::{Read, Write};
 use std::sync::Wait;
@@ -111,10 +111,11 @@ fn table_run_prints<'a>(
     let mut out = Watched::new(Vec::new(rt.alloc()));
     let mut err = Vec::new(rt.alloc());
     let alloc = rt.alloc();
+    let engine = InMemory::new(threads);
     let status = if is_table_follow(words) {
-        answer_table_follow(threads, alloc, &page, &page, words, &mut out, &mut err)
+        answer_table_follow(&engine, alloc, &page, &page, words, &mut out, &mut err)
     } else {
-        answer_table_run(threads, alloc, &page, &page, words, &mut out, &mut err)
+        answer_table_run(&engine, alloc, &page, &page, words, &mut out, &mut err)
     };
     Ok(Printed {
         status,

@@ -8,7 +8,7 @@ ghost use Rattle.collector.specs.Watching.{inner_of};
 ghost use Rattle.console.specs.Commands.{Answers};
 
 use collector::{Recorded, Watched};
-use console::{Disk, LineFault, Streams, Telling, Transcripts, Watcher, answer, refuse};
+use console::{Disk, InMemory, LineFault, Streams, Telling, Transcripts, Watcher, answer, refuse};
 use std::alloc::Global;
 use std::io::{ErrorKind, IsTerminal, Stderr};
 use std::process::ExitCode;
@@ -78,7 +78,7 @@ fn run_tables_here(rt: &HostRuntime, threads: &(impl Threads + Wait + Sync), wor
     let mut out = Watched::new(io::writer(rt));
     let mut err = rt.stderr();
     answer_table_run(
-        threads,
+        &InMemory::new(threads),
         rt.alloc(),
         &disk,
         &drafts,
@@ -99,7 +99,7 @@ fn follow_tables_here(
     let mut out = Watched::new(io::writer(rt));
     let mut err = rt.stderr();
     answer_table_follow(
-        threads,
+        &InMemory::new(threads),
         rt.alloc(),
         &disk,
         &drafts,

@@ -2,6 +2,7 @@
 use Rattle.std.specs.Prelude.{◌≡◌, ℕ, List, [], Option, Some, None, map, option_map, true}
 use Rattle.std.specs.List.{list_any}
 use Rattle.std.specs.Io.KnownBytes.{Appends}
+pub use Rattle.query_answers.specs.Runs.{Known}
 use Rattle.query_kinds.specs.Listed.{IsListed}
 use Rattle.schema.specs.declared.tables.Schema.{Schema}
 use Rattle.schema.specs.declared.tables.Table.{Table}
@@ -10,10 +11,6 @@ use Rattle.table_words.specs.declared.line.Asked.{Asked}
 use Rattle.table_words.specs.declared.line.Asked.TheVariants.{Encode, Decode, Kinds}
 use Rattle.tables.specs.Answers.{IsDecoded}
 use Rattle.tables.specs.Inputs.{AreNumbered, has_own}
-
--- the bytes of the texts of these names, where they are known
-abbrev pub Known : Type 0
-Known = List ℕ → Option (List ℕ)
 
 -- the texts that a command which may add to them begins with: those of the dictionary that is named, or none
 abbrev pub BeginsWith : Known → (dictionary : Option (List ℕ)) → (texts : List (List ℕ)) → Type 0

@@ -3,8 +3,8 @@ use Rattle.std.specs.Prelude.{◌≡◌, ◌≢◌, ◌⊎◌, ℕ, suc, ℤ, tr
 use Rattle.std.specs.Io.KnownBytes.{Appends}
 use Rattle.collector.specs.OutputText.{epoch_line}
 use Rattle.collector.specs.WrittenBytes.{AppendsFront}
-use Rattle.commands.specs.Readings.{read_part}
-use Rattle.commands.specs.Runs.{IsRun}
+use Rattle.query_answers.specs.Runs.{read_part}
+use Rattle.query_answers.specs.Runs.{IsRun}
 use Rattle.csv_cells.specs.Cells.{IsOnly, StandsAs}
 use Rattle.csv_cells.specs.Texts.{Grows}
 use Rattle.csv_cells.specs.declared.column.Column.{Column}

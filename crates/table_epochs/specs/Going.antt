@@ -2,8 +2,8 @@
 use Rattle.std.specs.Prelude.{◌≡◌, ◌⊎◌, ◌++◌, ℕ, zero, suc, true, List, [], ◌∷◌, Option, map, slice_set}
 use Rattle.std.specs.Io.KnownBytes.{Appends}
 use Rattle.collector.specs.WrittenBytes.{AppendsFront}
-use Rattle.commands.specs.Readings.{read_part}
-use Rattle.commands.specs.Runs.{IsRun}
+use Rattle.query_answers.specs.Runs.{read_part}
+use Rattle.query_answers.specs.Runs.{IsRun}
 use Rattle.csv_cells.specs.Texts.{texts_of}
 use Rattle.csv_epochs.specs.Epochs.{Held}
 use Rattle.csv_epochs.specs.Taken.{AreEpochsOf, IsTaken}

@@ -8,12 +8,11 @@ ghost use Rattle.table_epochs.specs.Followed.{IsAnswered, IsValue, csv_file};
 ghost use Rattle.table_epochs.specs.Going.{IsFileUnder, Keeps, followed_by, reached_by};
 
 use crate::numbering::numbered;
-use commands::{Fault, Texts, answer_text};
 use csv_cells::{Column, Dictionary, read_cell};
 use csv_epochs::Epoch;
+use diagnostics::{Fault, Texts};
+use query_answers::Answering;
 use std::alloc::{AllocError, Global};
-use std::sync::Wait;
-use std::thread::Threads;
 use table_commands::table_fault;
 use table_queries::{Job, RunFault};
 use tables::{EncodeRefusal, TableRefusal, decode, encode};
@@ -125,8 +124,8 @@ fn late_fault<'a>(alloc: Global, following: &Following<'_, 'a>, lines: Lines) ->
 }
 
 /// The CSV file of the answer to files, which hold one epoch, under its number.
-fn file_of<'a, R: Threads + Wait + Sync>(
-    rt: &R,
+fn file_of<'a, A: Answering>(
+    engine: &A,
     alloc: Global,
     job: &Job<'_, 'a>,
     number: u64,
@@ -134,9 +133,10 @@ fn file_of<'a, R: Threads + Wait + Sync>(
     input: &[u8],
     texts: &mut Texts,
 ) -> Result<Vec<u8>, RunFault<'a>>
+    requires { A.is_usable }
     ensures { IfOk result (λ file. IsFileUnder job.now.table.now job.now.query.now number (texts_of dictionary.now) input.now file.items) }
 {
-    let answer = answer_text(rt, alloc, job.workers, job.query, input, texts)?;
+    let answer = engine.answer_text(alloc, job.workers, job.query, input, texts)?;
     let text = numbered(alloc, number, answer.as_slice())?;
     match decode(alloc, job.table, true, dictionary, text.as_slice()) {
         Ok(file) => Ok(file),
@@ -154,13 +154,14 @@ pub fn put_text(files: &mut Vec<Vec<u8>>, place: usize, text: Vec<u8>)
 }
 
 /// The CSV file of the answer to an epoch, under its number.
-pub fn answer_epoch<'a, R: Threads + Wait + Sync>(
-    rt: &R,
+pub fn answer_epoch<'a, A: Answering>(
+    engine: &A,
     alloc: Global,
     following: &mut Following<'_, 'a>,
     epoch: Epoch,
     texts: &mut Texts,
 ) -> Result<Vec<u8>, RunFault<'a>>
+    requires { A.is_usable }
     ensures answered { IfOk result (λ file. (rows : List (List (List ℕ)))
         × IsAnswered (followed_by following.old) (reached_by following.old) (reached_by following.new) epoch rows
         × (file.items ≡ csv_file following.old.job.table.now rows)) }
@@ -194,7 +195,7 @@ pub fn answer_epoch<'a, R: Threads + Wait + Sync>(
     following.count = count;
     following.last = value;
     file_of(
-        rt,
+        engine,
         alloc,
         &job,
         number,

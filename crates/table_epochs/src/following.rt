@@ -10,12 +10,11 @@ ghost use Rattle.table_commands.specs.Read.{IsKnownAs};
 
 use crate::epoch_answer::{Following, Lines, answer_epoch, files_fault, put_text};
 use collector::{Watched, put};
-use commands::{Fault, Texts};
 use csv_epochs::{Ending, Epoch, SplitFault, Splitter};
+use diagnostics::{Fault, Texts};
+use query_answers::Answering;
 use std::alloc::Global;
 use std::io::{Read, Write};
-use std::sync::Wait;
-use std::thread::Threads;
 use table_queries::RunFault;
 use tables::{EncodeRefusal, TableRefusal, encode};
 
@@ -65,14 +64,15 @@ fn rows_under<'f>(header: &[u8], file: &'f [u8]) -> &'f [u8]
 }
 
 /// Answers an epoch, and writes its rows, the first time under the header row.
-fn write_epoch<'a, R: Threads + Wait + Sync, W: Write>(
-    rt: &R,
+fn write_epoch<'a, A: Answering, W: Write>(
+    engine: &A,
     alloc: Global,
     following: &mut Following<'_, 'a>,
     epoch: Epoch,
     texts: &mut Texts,
     out: &mut Watched<W>,
 ) -> Result<(), RunFault<'a>>
+    requires { A.is_usable }
     ensures written { HasHeader following.old → OnOk result (WritesEpoch (followed_by following.old) (reached_by following.old)
         (reached_by following.new) epoch (W.contents (inner_of out.old)) (W.contents (inner_of out.new))) }
     ensures fault { HasHeader following.old → IfErr result (λ fault. (W.contents (inner_of out.new) ≡ W.contents (inner_of out.old)) ⊎ BreaksOff
@@ -80,7 +80,7 @@ fn write_epoch<'a, R: Threads + Wait + Sync, W: Write>(
     ensures keeps { OnOk result (Keeps following.old following.new) }
 {
     let is_first = following.count == 0;
-    let file = answer_epoch(rt, alloc, following, epoch, texts)?;
+    let file = answer_epoch(engine, alloc, following, epoch, texts)?;
     let rows = if is_first {
         file.as_slice()
     } else {
@@ -93,8 +93,8 @@ fn write_epoch<'a, R: Threads + Wait + Sync, W: Write>(
 }
 
 /// Takes a piece of the file, and writes the rows of each epoch that is complete then.
-fn follow_piece<'a, R: Threads + Wait + Sync, W: Write>(
-    rt: &R,
+fn follow_piece<'a, A: Answering, W: Write>(
+    engine: &A,
     alloc: Global,
     following: &mut Following<'_, 'a>,
     splitter: &mut Splitter,
@@ -102,6 +102,7 @@ fn follow_piece<'a, R: Threads + Wait + Sync, W: Write>(
     texts: &mut Texts,
     out: &mut Watched<W>,
 ) -> Result<(), RunFault<'a>>
+    requires { A.is_usable }
     ensures going { (start : Reached) (text : List ℕ) (before : Option (List ℕ)) → HasHeader following.old → IsStart start
         → IsGoing (followed_by following.old) start (reached_by following.old) splitter.old text piece.now before (W.contents (inner_of out.old))
         → OnOk result (IsGoing (followed_by following.old) start (reached_by following.new) splitter.new text [] before
@@ -120,20 +121,21 @@ fn follow_piece<'a, R: Threads + Wait + Sync, W: Write>(
         let Some(epoch) = found else {
             return Ok(());
         };
-        write_epoch(rt, alloc, following, epoch, texts, out)?;
+        write_epoch(engine, alloc, following, epoch, texts, out)?;
         rest = behind;
     }
 }
 
 /// Writes the rows of the last epochs.
-fn follow_last<'a, R: Threads + Wait + Sync, W: Write>(
-    rt: &R,
+fn follow_last<'a, A: Answering, W: Write>(
+    engine: &A,
     alloc: Global,
     following: &mut Following<'_, 'a>,
     epochs: Vec<Epoch>,
     texts: &mut Texts,
     out: &mut Watched<W>,
 ) -> Result<(), RunFault<'a>>
+    requires { A.is_usable }
     ensures written { (start : Reached) (done : List epoch.Epoch) (before : Option (List ℕ)) → HasHeader following.old → IsStart start
         → HasWritten (followed_by following.old) start (reached_by following.old) done before (W.contents (inner_of out.old))
         → OnOk result (HasWritten (followed_by following.old) start (reached_by following.new) (done ++ epochs.items) before
@@ -144,14 +146,14 @@ fn follow_last<'a, R: Threads + Wait + Sync, W: Write>(
     ensures keeps { OnOk result (Keeps following.old following.new) }
 {
     for epoch in epochs {
-        write_epoch(rt, alloc, following, epoch, texts, out)?;
+        write_epoch(engine, alloc, following, epoch, texts, out)?;
     }
     Ok(())
 }
 
 /// Reads the file, and writes the rows of each epoch once it is complete. Gives the header row.
-pub fn follow_text<'a, R: Threads + Wait + Sync, T: Read, W: Write>(
-    rt: &R,
+pub fn follow_text<'a, A: Answering, T: Read, W: Write>(
+    engine: &A,
     alloc: Global,
     following: &mut Following<'_, 'a>,
     path: &'a str,
@@ -159,6 +161,7 @@ pub fn follow_text<'a, R: Threads + Wait + Sync, T: Read, W: Write>(
     texts: &mut Texts,
     out: &mut Watched<W>,
 ) -> Result<Vec<u8>, RunFault<'a>>
+    requires { A.is_usable }
     ensures taken { HasHeader following.old → IsStart (reached_by following.old) → IfOk result
         (λ header. (bytes : List ℕ) × IsKnownAs (T.remaining (inner_of text.old)) bytes
         × HasTaken (followed_by following.old) (reached_by following.old) (reached_by following.new) bytes header.items
@@ -182,7 +185,7 @@ pub fn follow_text<'a, R: Threads + Wait + Sync, T: Read, W: Write>(
         };
         room = left;
         follow_piece(
-            rt,
+            engine,
             alloc,
             following,
             &mut splitter,
@@ -193,7 +196,7 @@ pub fn follow_text<'a, R: Threads + Wait + Sync, T: Read, W: Write>(
     }
     match splitter.finish() {
         Ok(Ending { header, epochs }) => {
-            follow_last(rt, alloc, following, epochs, texts, out)?;
+            follow_last(engine, alloc, following, epochs, texts, out)?;
             Ok(header)
         }
         Err(fault) => Err(split_fault(alloc, following, fault)),

@@ -1,6 +1,6 @@
 -- The texts of files, one of them left out.
 use Rattle.std.proofs.Common.{◌≡◌, ◌≢◌, ◌++◌, ℕ, Bool, zero, suc, List, [], ◌∷◌, length, set, refl}
-use Rattle.table_commands.specs.Done.{Known}
+use Rattle.query_answers.specs.Runs.{Known}
 use Rattle.schema.specs.declared.tables.Table.{Table}
 use Rattle.table_files.specs.Read.{AreTexts, IsKnownAs}
 use Rattle.tables.specs.Answers.{AreDecoded, AreLines, AreRows, Where, outside}

@@ -1,6 +1,6 @@
 -- From what was followed to what the line's files are.
 use Rattle.std.proofs.Common.{[], ℕ, List, Option, get_or, map, inr, subst}
-use Rattle.table_commands.specs.Done.{Known}
+use Rattle.query_answers.specs.Runs.{Known}
 use Rattle.schema.specs.declared.tables.Schema.{Schema}
 use Rattle.schema.specs.declared.tables.Table.{Table}
 use Rattle.table_queries.specs.declared.fault.RunFault.{RunFault}

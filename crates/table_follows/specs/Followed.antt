@@ -1,7 +1,7 @@
 -- What `follow --schema` does.
 use Rattle.std.specs.Prelude.{◌≡◌, ◌⊎◌, ℕ, zero, suc, false, List, [], ◌∷◌, Option, Some, get_or, option_map, slice_get}
 use Rattle.std.specs.List.{list_any}
-use Rattle.table_commands.specs.Done.{Known}
+use Rattle.query_answers.specs.Runs.{Known}
 use Rattle.csv_cells.specs.Cells.{plain}
 use Rattle.csv_cells.specs.declared.column.Column.{Column}
 use Rattle.schema.specs.declared.tables.Epochs.TheVariants.{By}

@@ -1,6 +1,6 @@
 -- Where following begins.
 use Rattle.std.specs.Prelude.{◌≡◌, ℕ, List, map}
-use Rattle.table_commands.specs.Done.{Known}
+use Rattle.query_answers.specs.Runs.{Known}
 use Rattle.schema.specs.declared.tables.Schema.{Schema}
 use Rattle.schema.specs.declared.tables.Table.{Table}
 use Rattle.table_epochs.specs.Followed.{IsStart}

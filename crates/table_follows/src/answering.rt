@@ -9,11 +9,10 @@ ghost use Rattle.schema_words.specs.declared.run_line.TableRun.{TableRun};
 use crate::files::follow_tables;
 use collector::{Sources, Watched};
 use diagnostics::Texts;
+use query_answers::Answering;
 use schema_words::read_run_words;
 use std::alloc::Global;
 use std::io::Write;
-use std::sync::Wait;
-use std::thread::Threads;
 use table_commands::{Drafts, refuse, report};
 use table_queries::RunFault;
 use table_runs::report_run;
@@ -33,15 +32,8 @@ pub fn is_table_follow(words: &[&str]) -> bool
 
 /// Answers a line of `follow --schema`, whose first word is the program's own, and gives the status: 0 done, 2 command line, 3 schema or query, 4 a
 /// file's text, 5 memory, a count or a thread, 6 file. The rows that were written before a fault stay.
-pub fn answer_table_follow<
-    'a,
-    R: Threads + Wait + Sync,
-    S: Sources<'a>,
-    D: Drafts,
-    W: Write,
-    E: Write,
->(
-    rt: &R,
+pub fn answer_table_follow<'a, A: Answering, S: Sources<'a>, D: Drafts, W: Write, E: Write>(
+    engine: &A,
     alloc: Global,
     sources: &S,
     drafts: &D,
@@ -49,6 +41,7 @@ pub fn answer_table_follow<
     out: &mut Watched<W>,
     err: &mut E,
 ) -> u8
+    requires { A.is_usable }
     ensures written { result ≡ 0 → (asked : TableRun) × HasFollowed (S.content sources.now) asked (W.contents (inner_of out.old))
         (W.contents (inner_of out.new)) }
     ensures fault { (result ≡ 0) ⊎ ((W.contents (inner_of out.new) ≡ W.contents (inner_of out.old)) ⊎
@@ -61,7 +54,7 @@ pub fn answer_table_follow<
         Err(error) => return refuse(error, err),
     };
     let mut texts = Texts::new(alloc);
-    match follow_tables(rt, alloc, sources, drafts, &asked, &mut texts, out) {
+    match follow_tables(engine, alloc, sources, drafts, &asked, &mut texts, out) {
         Ok(()) => 0,
         Err(RunFault::Tables(fault)) => report(alloc, &fault, err),
         Err(RunFault::Run(fault)) => report_run(

@@ -13,12 +13,11 @@ use crate::stream::{other_texts, stream_of};
 use collector::{Sources, Watched, open_named};
 use csv_cells::Dictionary;
 use diagnostics::{Fault, Texts};
+use query_answers::Answering;
 use schema::Table;
 use schema_words::TableRun;
 use std::alloc::Global;
 use std::io::Write;
-use std::sync::Wait;
-use std::thread::Threads;
 use table_commands::{Drafts, begin_dictionary, dictionary_of, grown_text, keep_dictionary};
 use table_epochs::{Following, Stream, check_files, follow_end, follow_text};
 use table_queries::{Job, RunFault, asked_output, begin_run};
@@ -56,14 +55,15 @@ fn path_at<'a>(paths: &[&'a str], place: usize) -> &'a str
 }
 
 /// Follows the file that arrives. What is wrong with the others is told before.
-fn follow_file<'a, R: Threads + Wait + Sync, S: Sources<'a>, W: Write>(
-    rt: &R,
+fn follow_file<'a, A: Answering, S: Sources<'a>, W: Write>(
+    engine: &A,
     alloc: Global,
     sources: &S,
     following: &mut Following<'_, 'a>,
     texts: &mut Texts,
     out: &mut Watched<W>,
 ) -> Result<(), RunFault<'a>>
+    requires { A.is_usable }
     ensures written { HasHeader following.old → IsStart (reached_by following.old)
         → OnOk result (FollowsText (S.content sources.now (get_or (map (λ s. s.now) following.old.job.paths.now) following.old.stream.place []))
         (followed_by following.old) (W.contents (inner_of out.old)) (W.contents (inner_of out.new))) }
@@ -76,7 +76,7 @@ fn follow_file<'a, R: Threads + Wait + Sync, S: Sources<'a>, W: Write>(
     check_files(alloc, following, header)?;
     let path = path_at(following.job.paths, place);
     let mut opened = open_named(sources, path);
-    let header = follow_text(rt, alloc, following, path, &mut opened.text, texts, out)?;
+    let header = follow_text(engine, alloc, following, path, &mut opened.text, texts, out)?;
     follow_end(alloc, following, header, out)
 }
 
@@ -111,14 +111,15 @@ fn begin_following<'p, 'a, S: Sources<'a>>(
 }
 
 /// Follows with a dictionary that isn't kept.
-fn follow_without<'a, R: Threads + Wait + Sync, S: Sources<'a>, W: Write>(
-    rt: &R,
+fn follow_without<'a, A: Answering, S: Sources<'a>, W: Write>(
+    engine: &A,
     alloc: Global,
     sources: &S,
     streamed: Streamed<'_, 'a>,
     texts: &mut Texts,
     out: &mut Watched<W>,
 ) -> Result<(), RunFault<'a>>
+    requires { A.is_usable }
     ensures written { IsStream streamed.entry.job.schema.now.inputs.items streamed.entry.stream.place streamed.entry.stream.column
         streamed.entry.stream.cells
         → OnOk result (FollowsFile (S.content sources.now) streamed.entry.job.schema.now streamed.entry.job.table.now
@@ -132,7 +133,7 @@ fn follow_without<'a, R: Threads + Wait + Sync, S: Sources<'a>, W: Write>(
 {
     let none = Dictionary::new(alloc);
     let mut following = begin_following(alloc, sources, streamed, none)?;
-    follow_file(rt, alloc, sources, &mut following, texts, out)
+    follow_file(engine, alloc, sources, &mut following, texts, out)
 }
 
 /// The text of the dictionary's file of that name, if it has more than that many texts.
@@ -149,8 +150,8 @@ fn grown_after<'a>(
 }
 
 /// Follows the file that arrives. Gives the text of the dictionary's file if it has more than that many texts then.
-fn follow_counted<'a, R: Threads + Wait + Sync, S: Sources<'a>, W: Write>(
-    rt: &R,
+fn follow_counted<'a, A: Answering, S: Sources<'a>, W: Write>(
+    engine: &A,
     alloc: Global,
     sources: &S,
     following: &mut Following<'_, 'a>,
@@ -158,6 +159,7 @@ fn follow_counted<'a, R: Threads + Wait + Sync, S: Sources<'a>, W: Write>(
     texts: &mut Texts,
     out: &mut Watched<W>,
 ) -> Result<Option<Vec<u8>>, RunFault<'a>>
+    requires { A.is_usable }
     ensures written { HasHeader following.old → IsStart (reached_by following.old)
         → OnOk result (FollowsText (S.content sources.now (get_or (map (λ s. s.now) following.old.job.paths.now) following.old.stream.place []))
         (followed_by following.old) (W.contents (inner_of out.old)) (W.contents (inner_of out.new))) }
@@ -166,13 +168,13 @@ fn follow_counted<'a, R: Threads + Wait + Sync, S: Sources<'a>, W: Write>(
         (followed_by following.old) (W.contents (inner_of out.old)) (W.contents (inner_of out.new))) }
 {
     let (name, count) = named;
-    follow_file(rt, alloc, sources, following, texts, out)?;
+    follow_file(engine, alloc, sources, following, texts, out)?;
     grown_after(alloc, &following.dictionary, count, name)
 }
 
 /// Follows by the dictionary of that name. Gives the text of its file if it has grown.
-fn follow_with<'a, R: Threads + Wait + Sync, S: Sources<'a>, W: Write>(
-    rt: &R,
+fn follow_with<'a, A: Answering, S: Sources<'a>, W: Write>(
+    engine: &A,
     alloc: Global,
     sources: &S,
     streamed: Streamed<'_, 'a>,
@@ -180,6 +182,7 @@ fn follow_with<'a, R: Threads + Wait + Sync, S: Sources<'a>, W: Write>(
     texts: &mut Texts,
     out: &mut Watched<W>,
 ) -> Result<Option<Vec<u8>>, RunFault<'a>>
+    requires { A.is_usable }
     ensures written { IsStream streamed.entry.job.schema.now.inputs.items streamed.entry.stream.place streamed.entry.stream.column
         streamed.entry.stream.cells
         → OnOk result (FollowsFile (S.content sources.now) streamed.entry.job.schema.now streamed.entry.job.table.now
@@ -195,7 +198,7 @@ fn follow_with<'a, R: Threads + Wait + Sync, S: Sources<'a>, W: Write>(
     let count = dictionary.len();
     let mut following = begin_following(alloc, sources, streamed, dictionary)?;
     follow_counted(
-        rt,
+        engine,
         alloc,
         sources,
         &mut following,
@@ -206,8 +209,8 @@ fn follow_with<'a, R: Threads + Wait + Sync, S: Sources<'a>, W: Write>(
 }
 
 /// Follows, and keeps the dictionary if there is one, which no other command writes meanwhile.
-fn follow_streamed<'a, R: Threads + Wait + Sync, S: Sources<'a>, D: Drafts, W: Write>(
-    rt: &R,
+fn follow_streamed<'a, A: Answering, S: Sources<'a>, D: Drafts, W: Write>(
+    engine: &A,
     alloc: Global,
     sources: &S,
     drafts: &D,
@@ -215,6 +218,7 @@ fn follow_streamed<'a, R: Threads + Wait + Sync, S: Sources<'a>, D: Drafts, W: W
     texts: &mut Texts,
     out: &mut Watched<W>,
 ) -> Result<(), RunFault<'a>>
+    requires { A.is_usable }
     ensures written { IsStream streamed.entry.job.schema.now.inputs.items streamed.entry.stream.place streamed.entry.stream.column
         streamed.entry.stream.cells
         → OnOk result (FollowsFile (S.content sources.now) streamed.entry.job.schema.now streamed.entry.job.table.now
@@ -227,10 +231,10 @@ fn follow_streamed<'a, R: Threads + Wait + Sync, S: Sources<'a>, D: Drafts, W: W
         (W.contents (inner_of out.new))) }
 {
     let Some(name) = streamed.job.dictionary else {
-        return follow_without(rt, alloc, sources, streamed, texts, out);
+        return follow_without(engine, alloc, sources, streamed, texts, out);
     };
     let draft = begin_dictionary(drafts, name)?;
-    match follow_with(rt, alloc, sources, streamed, name, texts, out) {
+    match follow_with(engine, alloc, sources, streamed, name, texts, out) {
         Ok(kept) => Ok(keep_dictionary(drafts, draft, name, kept)?),
         Err(fault) => {
             drafts.discard(draft);
@@ -244,8 +248,8 @@ fn follow_streamed<'a, R: Threads + Wait + Sync, S: Sources<'a>, D: Drafts, W: W
 ///
 /// Faults are reported in this order: those of `begin_run`, the dictionary, the other files, and then those of the file that arrives and of the
 /// runs, epoch by epoch. The rows that were written before a fault stay.
-pub fn follow_tables<'a, R: Threads + Wait + Sync, S: Sources<'a>, D: Drafts, W: Write>(
-    rt: &R,
+pub fn follow_tables<'a, A: Answering, S: Sources<'a>, D: Drafts, W: Write>(
+    engine: &A,
     alloc: Global,
     sources: &S,
     drafts: &D,
@@ -253,6 +257,7 @@ pub fn follow_tables<'a, R: Threads + Wait + Sync, S: Sources<'a>, D: Drafts, W:
     texts: &mut Texts,
     out: &mut Watched<W>,
 ) -> Result<(), RunFault<'a>>
+    requires { A.is_usable }
     ensures written { OnOk result (HasFollowed (S.content sources.now) asked.now (W.contents (inner_of out.old)) (W.contents (inner_of out.new))) }
     ensures fault { IfErr result (FailsSo (S.content sources.now) asked.now (W.contents (inner_of out.old)) (W.contents (inner_of out.new))) }
 {
@@ -268,8 +273,8 @@ pub fn follow_tables<'a, R: Threads + Wait + Sync, S: Sources<'a>, D: Drafts, W:
     match stream_of(&begun.schema.inputs) {
         Some(stream) => {
             let streamed = Streamed { job, stream };
-            follow_streamed(rt, alloc, sources, drafts, streamed, texts, out)
+            follow_streamed(engine, alloc, sources, drafts, streamed, texts, out)
         }
-        None => run_job(rt, alloc, sources, drafts, &job, texts, out),
+        None => run_job(engine, alloc, sources, drafts, &job, texts, out),
     }
 }

@@ -2,7 +2,7 @@
 use Rattle.std.specs.Prelude.{◌≡◌, ℕ, List, map, option_map}
 use Rattle.command_line.specs.declared.query.Query.{Query}
 use Rattle.command_line.specs.declared.query.Query.TheVariants.{File, Inline}
-use Rattle.commands.specs.Readings.{Known, read_part}
+use Rattle.query_answers.specs.Runs.{Known, read_part}
 use Rattle.query_kinds.specs.Listed.{IsListed}
 use Rattle.schema.specs.declared.tables.Schema.{Schema}
 use Rattle.table_commands.specs.Read.{AreNamed, IsKnownAs, IsReadSchema}

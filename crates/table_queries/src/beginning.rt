@@ -2,7 +2,7 @@
 
 ghost use Rattle.std.specs.Prelude.{◌≡◌, IfOk, map, option_map};
 ghost use Rattle.collector.specs.Watching.{inner_of};
-ghost use Rattle.commands.specs.Readings.{read_part};
+ghost use Rattle.query_answers.specs.Runs.{read_part};
 ghost use Rattle.table_commands.specs.Read.{AreNamed, IsKnownAs, IsOutput, IsReadSchema};
 ghost use Rattle.query_kinds.specs.Listed.{IsListed};
 ghost use Rattle.table_queries.specs.Begun.{HasListed, IsBegun, IsQueryText};
@@ -12,7 +12,7 @@ use crate::fault::RunFault;
 use bumpalo::Bump;
 use collector::{ReadFault, Sources, Watched, open_named, read_at_most};
 use command_line::Query;
-use commands::{Fault, Texts};
+use diagnostics::{Fault, Texts};
 use lexer::MAX_LENGTH;
 use query_kinds::kinds_text;
 use record_core::Refusal;

@@ -1,7 +1,7 @@
 //! What is said of the columns at the place where a query is refused.
 
 use bumpalo::Bump;
-use commands::{Fault, Texts};
+use diagnostics::{Fault, Texts};
 use query_kinds::told_columns;
 use record_core::Span;
 use schema::Schema;

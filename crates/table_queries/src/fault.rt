@@ -10,7 +10,7 @@ use std::alloc::AllocError;
 #[derive(Drop)]
 pub enum RunFault<'a> {
     Tables(table_commands::Fault<'a>),
-    Run(commands::Fault),
+    Run(diagnostics::Fault),
 }
 
 impl<'a> From<table_commands::Fault<'a>> for RunFault<'a> {
@@ -21,10 +21,10 @@ impl<'a> From<table_commands::Fault<'a>> for RunFault<'a> {
     }
 }
 
-impl<'a> From<commands::Fault> for RunFault<'a> {
+impl<'a> From<diagnostics::Fault> for RunFault<'a> {
     ghost from_gives = { λ fault made. made ≡ Run fault };
 
-    fn from(fault: commands::Fault) -> RunFault<'a> {
+    fn from(fault: diagnostics::Fault) -> RunFault<'a> {
         RunFault::Run(fault)
     }
 }
@@ -33,6 +33,6 @@ impl<'a> From<AllocError> for RunFault<'a> {
     ghost from_gives = { λ _ made. made ≡ Run NoMemory };
 
     fn from(_e: AllocError) -> RunFault<'a> {
-        RunFault::Run(commands::Fault::NoMemory)
+        RunFault::Run(diagnostics::Fault::NoMemory)
     }
 }

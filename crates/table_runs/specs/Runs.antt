@@ -2,8 +2,8 @@
 use Rattle.std.specs.Prelude.{◌≡◌, ◌⊎◌, ℕ, List, Option, option_map}
 use Rattle.std.specs.List.{list_any}
 use Rattle.std.specs.Io.KnownBytes.{Appends}
-use Rattle.commands.specs.Readings.{Known, read_part}
-use Rattle.commands.specs.Runs.{IsRun}
+use Rattle.query_answers.specs.Runs.{Known, read_part}
+use Rattle.query_answers.specs.Runs.{IsRun}
 use Rattle.schema.specs.declared.tables.Schema.{Schema}
 use Rattle.schema.specs.declared.tables.Table.{Table}
 use Rattle.table_commands.specs.Done.{BeginsWith}

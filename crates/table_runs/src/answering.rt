@@ -8,14 +8,12 @@ ghost use Rattle.schema_words.specs.declared.run_line.TableRun.{TableRun};
 use crate::running::run_tables;
 use collector::{Sources, Watched};
 use command_line::Query;
-use commands::{Fault, Texts};
-use diagnostics::{TextNames, explain_fault, write_path_hint, write_told};
+use diagnostics::{Fault, TextNames, Texts, explain_fault, write_path_hint, write_told};
+use query_answers::Answering;
 use schema_words::read_run_words;
 use std::alloc::Global;
 use std::io;
 use std::io::Write;
-use std::sync::Wait;
-use std::thread::Threads;
 use table_commands::{Drafts, refuse, report};
 use table_queries::{RunFault, write_columns};
 
@@ -91,15 +89,8 @@ pub fn report_run<E: Write>(
 
 /// Answers a line of `run --schema`, whose first word is the program's own, and gives the status: 0 done, 2 command line, 3 schema or query, 4 a file's
 /// text, 5 memory, a count or a thread, 6 file.
-pub fn answer_table_run<
-    'a,
-    R: Threads + Wait + Sync,
-    S: Sources<'a>,
-    D: Drafts,
-    W: Write,
-    E: Write,
->(
-    rt: &R,
+pub fn answer_table_run<'a, A: Answering, S: Sources<'a>, D: Drafts, W: Write, E: Write>(
+    engine: &A,
     alloc: Global,
     sources: &S,
     drafts: &D,
@@ -107,6 +98,7 @@ pub fn answer_table_run<
     out: &mut Watched<W>,
     err: &mut E,
 ) -> u8
+    requires { A.is_usable }
     ensures written { result ≡ 0 → (asked : TableRun) × IsDone (S.content sources.now) asked (W.contents (inner_of out.old)) (W.contents (inner_of out.new)) }
     ensures quiet { ((result ≡ 0) ⊎ (result ≡ 6)) ⊎ (W.contents (inner_of out.new) ≡ W.contents (inner_of out.old)) }
 {
@@ -116,7 +108,7 @@ pub fn answer_table_run<
         Err(error) => return refuse(error, err),
     };
     let mut texts = Texts::new(alloc);
-    match run_tables(rt, alloc, sources, drafts, &asked, &mut texts, out) {
+    match run_tables(engine, alloc, sources, drafts, &asked, &mut texts, out) {
         Ok(()) => 0,
         Err(RunFault::Tables(fault)) => report(alloc, &fault, err),
         Err(RunFault::Run(fault)) => report_run(

@@ -7,7 +7,7 @@ ghost use Rattle.schema_words.specs.declared.check_line.TableCheck.{TableCheck};
 
 use crate::answering::report_run;
 use collector::{Sources, Watched, put};
-use commands::Texts;
+use diagnostics::Texts;
 use schema_words::{TableCheck, read_check_words};
 use std::alloc::Global;
 use std::io::Write;

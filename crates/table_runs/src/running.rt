@@ -6,13 +6,12 @@ ghost use Rattle.csv_cells.specs.Texts.{texts_of};
 ghost use Rattle.table_runs.specs.Runs.{Fails, IsAnswerBy, IsAnswerFile, IsDone, WritesAnswer};
 
 use collector::{Sources, Watched, put};
-use commands::{Texts, answer_text};
 use csv_cells::Dictionary;
+use diagnostics::Texts;
+use query_answers::Answering;
 use schema_words::TableRun;
 use std::alloc::Global;
 use std::io::Write;
-use std::sync::Wait;
-use std::thread::Threads;
 use table_commands::{
     Drafts, begin_dictionary, dictionary_of, grown_text, input_text, table_fault, write_with,
 };
@@ -23,19 +22,20 @@ use tables::{decode, has_epochs};
 const ANSWER: &str = "answer";
 
 /// The CSV file of the answer, and the dictionary as it is then.
-fn answer_file<'a, R: Threads + Wait + Sync, S: Sources<'a>>(
-    rt: &R,
+fn answer_file<'a, A: Answering, S: Sources<'a>>(
+    engine: &A,
     alloc: Global,
     sources: &S,
     job: &Job<'_, 'a>,
     dictionary: &mut Dictionary,
     texts: &mut Texts,
 ) -> Result<Vec<u8>, RunFault<'a>>
+    requires { A.is_usable }
     ensures { IfOk result (λ file. IsAnswerBy (S.content sources.now) job.now.schema.now job.now.table.now (map (λ s. s.now) job.now.paths.now) job.now.query.now
         (texts_of dictionary.old) file.items) }
 {
     let input = input_text(alloc, sources, job.schema, job.paths, dictionary)?;
-    let answer = answer_text(rt, alloc, job.workers, job.query, input.as_slice(), texts)?;
+    let answer = engine.answer_text(alloc, job.workers, job.query, input.as_slice(), texts)?;
     match decode(
         alloc,
         job.table,
@@ -49,39 +49,41 @@ fn answer_file<'a, R: Threads + Wait + Sync, S: Sources<'a>>(
 }
 
 /// The same by the dictionary of that name, and the text of its file if it has grown.
-fn file_with<'a, R: Threads + Wait + Sync, S: Sources<'a>>(
-    rt: &R,
+fn file_with<'a, A: Answering, S: Sources<'a>>(
+    engine: &A,
     alloc: Global,
     sources: &S,
     job: &Job<'_, 'a>,
     name: &'a str,
     texts: &mut Texts,
 ) -> Result<(Vec<u8>, Option<Vec<u8>>), RunFault<'a>>
+    requires { A.is_usable }
     ensures { IfOk result (λ made. IsAnswerFile (S.content sources.now) job.now.schema.now job.now.table.now (map (λ s. s.now) job.now.paths.now) job.now.query.now
         (Some name.now) made.0.items) }
 {
     let mut dictionary = dictionary_of(alloc, sources, name, true)?;
     let count = dictionary.len();
-    let text = answer_file(rt, alloc, sources, job, &mut dictionary, texts)?;
+    let text = answer_file(engine, alloc, sources, job, &mut dictionary, texts)?;
     let kept = grown_text(alloc, &dictionary, count)?;
     Ok((text, kept))
 }
 
 /// Runs with a dictionary that isn't kept.
-fn run_without<'a, R: Threads + Wait + Sync, S: Sources<'a>, W: Write>(
-    rt: &R,
+fn run_without<'a, A: Answering, S: Sources<'a>, W: Write>(
+    engine: &A,
     alloc: Global,
     sources: &S,
     job: &Job<'_, 'a>,
     texts: &mut Texts,
     out: &mut Watched<W>,
 ) -> Result<(), RunFault<'a>>
+    requires { A.is_usable }
     ensures written { OnOk result (WritesAnswer (S.content sources.now) job.now.schema.now job.now.table.now (map (λ s. s.now) job.now.paths.now) job.now.query.now
         None (W.contents (inner_of out.old)) (W.contents (inner_of out.new))) }
     ensures fault { IfErr result (Fails (W.contents (inner_of out.old)) (W.contents (inner_of out.new))) }
 {
     let mut dictionary = Dictionary::new(alloc);
-    let text = answer_file(rt, alloc, sources, job, &mut dictionary, texts)?;
+    let text = answer_file(engine, alloc, sources, job, &mut dictionary, texts)?;
     match put(out, text.as_slice()) {
         Ok(()) => Ok(()),
         Err(_) => Err(RunFault::Tables(table_commands::Fault::Write)),
@@ -90,8 +92,8 @@ fn run_without<'a, R: Threads + Wait + Sync, S: Sources<'a>, W: Write>(
 
 /// Runs, and keeps the dictionary if there is one, which no other command writes meanwhile. At a fault nothing is written, unless the writer or the
 /// dictionary's file failed.
-pub fn run_job<'a, R: Threads + Wait + Sync, S: Sources<'a>, D: Drafts, W: Write>(
-    rt: &R,
+pub fn run_job<'a, A: Answering, S: Sources<'a>, D: Drafts, W: Write>(
+    engine: &A,
     alloc: Global,
     sources: &S,
     drafts: &D,
@@ -99,15 +101,16 @@ pub fn run_job<'a, R: Threads + Wait + Sync, S: Sources<'a>, D: Drafts, W: Write
     texts: &mut Texts,
     out: &mut Watched<W>,
 ) -> Result<(), RunFault<'a>>
+    requires { A.is_usable }
     ensures written { OnOk result (WritesAnswer (S.content sources.now) job.now.schema.now job.now.table.now (map (λ s. s.now) job.now.paths.now) job.now.query.now
         (option_map (λ s. s.now) job.now.dictionary) (W.contents (inner_of out.old)) (W.contents (inner_of out.new))) }
     ensures fault { IfErr result (Fails (W.contents (inner_of out.old)) (W.contents (inner_of out.new))) }
 {
     let Some(name) = job.dictionary else {
-        return run_without(rt, alloc, sources, job, texts, out);
+        return run_without(engine, alloc, sources, job, texts, out);
     };
     let draft = begin_dictionary(drafts, name)?;
-    match file_with(rt, alloc, sources, job, name, texts) {
+    match file_with(engine, alloc, sources, job, name, texts) {
         Ok(made) => Ok(write_with(drafts, draft, name, made, out)?),
         Err(fault) => {
             drafts.discard(draft);
@@ -120,8 +123,8 @@ pub fn run_job<'a, R: Threads + Wait + Sync, S: Sources<'a>, D: Drafts, W: Write
 ///
 /// Faults are reported in this order: those of `begin_run`, the dictionary, the CSV files, the run, the answer's cells. What was read of the query and its
 /// input text is left in `texts`.
-pub fn run_tables<'a, R: Threads + Wait + Sync, S: Sources<'a>, D: Drafts, W: Write>(
-    rt: &R,
+pub fn run_tables<'a, A: Answering, S: Sources<'a>, D: Drafts, W: Write>(
+    engine: &A,
     alloc: Global,
     sources: &S,
     drafts: &D,
@@ -129,6 +132,7 @@ pub fn run_tables<'a, R: Threads + Wait + Sync, S: Sources<'a>, D: Drafts, W: Wr
     texts: &mut Texts,
     out: &mut Watched<W>,
 ) -> Result<(), RunFault<'a>>
+    requires { A.is_usable }
     ensures written { OnOk result (IsDone (S.content sources.now) asked.now (W.contents (inner_of out.old)) (W.contents (inner_of out.new))) }
     ensures fault { IfErr result (Fails (W.contents (inner_of out.old)) (W.contents (inner_of out.new))) }
 {
@@ -141,5 +145,5 @@ pub fn run_tables<'a, R: Threads + Wait + Sync, S: Sources<'a>, D: Drafts, W: Wr
         workers: asked.workers,
         dictionary: asked.dictionary,
     };
-    run_job(rt, alloc, sources, drafts, &job, texts, out)
+    run_job(engine, alloc, sources, drafts, &job, texts, out)
 }

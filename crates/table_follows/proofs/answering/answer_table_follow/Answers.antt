@@ -1,7 +1,7 @@
 use Rattle.std.proofs.Common.{arith, ◌≡◌, ℕ, List, Option, inl, inr}
 use Rattle.std.specs.Prelude.{◌⊎◌}
 use Rattle.collector.specs.Watching.{inner_of}
-use Rattle.table_commands.specs.Done.{Known}
+use Rattle.query_answers.specs.Runs.{Known}
 use Rattle.table_queries.specs.declared.fault.RunFault.{RunFault}
 use Rattle.schema_words.specs.declared.run_line.TableRun.{TableRun}
 use Rattle.table_follows.specs.Followed.{FailsSo, HasFailed}

@@ -1,7 +1,7 @@
 use Rattle.std.proofs.Common.{Some, ap, sym}
 use Rattle.collector.specs.Watching.{inner_of}
-use Rattle.commands.proofs.InMemory.{run_of}
-use Rattle.commands.proofs.in_memory.answer_text.Goals as goal
+use Rattle.commands.proofs.AppendedAnswer.{run_of}
+use Rattle.commands.proofs.in_memory.InMemoryAnswering.answer_text.Goals as goal
 
 pub returns-in-Ok : goal.returns-in-Ok
 returns-in-Ok g c =
