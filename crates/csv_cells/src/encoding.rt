@@ -49,29 +49,23 @@ pub enum TextFault {
     NoMemory,
 }
 
-/// Appends the line of a record, whose numbers come in place of those in `numbers`. So many records come before it.
+/// Appends the line of a record, whose numbers come in place of those in `numbers`.
 fn push_record(
     alloc: Global,
     columns: &[Column],
     name: &[u8],
     dictionary: &mut Dictionary,
     row: &ByteRecord,
-    count: u64,
     numbers: &mut Vec<i64>,
     out: &mut Vec<u8>,
-) -> Result<(), TextFault>
+) -> Result<(), RowFault>
     ensures spelled { OnOk result (Spells columns.now (texts_of dictionary.new) (fields_of row.now) numbers.new.items) }
     ensures written { OnOk result (out.new.items ≡ out.old.items ++ line_text name.now numbers.new.items) }
     ensures grows { OnOk result (Grows (texts_of dictionary.old) (texts_of dictionary.new)) }
 {
-    match read_row(alloc, columns, dictionary, row, numbers) {
-        Ok(()) => {}
-        Err(fault) => return Err(TextFault::Row(count, fault)),
-    }
-    match append_line(out, name, numbers.as_slice()) {
-        Ok(()) => Ok(()),
-        Err(_) => Err(TextFault::NoMemory),
-    }
+    read_row(alloc, columns, dictionary, row, numbers)?;
+    append_line(out, name, numbers.as_slice())?;
+    Ok(())
 }
 
 /// The lines of the records of a CSV text with no header row.
@@ -102,12 +96,12 @@ pub fn encode_text(
             name,
             dictionary,
             &row,
-            count,
             &mut numbers,
             &mut out,
         ) {
             Ok(()) => {}
-            Err(fault) => return Err(fault),
+            Err(RowFault::NoMemory) => return Err(TextFault::NoMemory),
+            Err(fault) => return Err(TextFault::Row(count, fault)),
         }
         count = count.saturating_add(1);
     }

@@ -114,8 +114,6 @@ fn append_rows(
     target: Target<'_>,
     dictionary: &mut Dictionary,
     reader: &mut Reader<&[u8]>,
-    row: &mut ByteRecord,
-    numbers: &mut Vec<i64>,
     out: &mut Vec<u8>,
 ) -> Result<(), RowRefusal>
     ensures encoded { OnOk result ((lines : List ℕ) × (out.new.items ≡ out.old.items ++ lines)
@@ -124,14 +122,16 @@ fn append_rows(
         → AreRefused names columns.now target.entry.epochs text (texts_of dictionary.new) r.fault) }
     ensures grows { OnOk result (Grows (texts_of dictionary.old) (texts_of dictionary.new)) }
 {
+    let mut row = ByteRecord::new(alloc);
+    let mut numbers = Vec::new(alloc);
     let mut last = None;
     for count in 1..u64::MAX {
-        match read_record(reader, row) {
+        match read_record(reader, &mut row) {
             Ok(true) => {}
             Ok(false) => return Ok(()),
             Err(_) => return Err(no_memory(count)),
         }
-        match read_row(alloc, columns, dictionary, row, numbers) {
+        match read_row(alloc, columns, dictionary, &row, &mut numbers) {
             Ok(()) => {}
             Err(fault) => {
                 let fault = fault_of_row(fault);
@@ -170,19 +170,8 @@ pub fn encode_rows(
         Ok(()) => {}
         Err(fault) => return Err(RowRefusal { count: 0, fault }),
     }
-    let mut row = ByteRecord::new(alloc);
-    let mut numbers = Vec::new(alloc);
     let mut out = Vec::new(alloc);
-    match append_rows(
-        alloc,
-        columns,
-        target,
-        dictionary,
-        &mut reader,
-        &mut row,
-        &mut numbers,
-        &mut out,
-    ) {
+    match append_rows(alloc, columns, target, dictionary, &mut reader, &mut out) {
         Ok(()) => {}
         Err(refusal) => return Err(refusal),
     }
