@@ -35,6 +35,7 @@ both (Some x) f g name rows n r =
 pub holds : (words : List Text) (m : ArgMatches) (name : Text) (rows : List Row) → HasMatchesOf run_line words m → Some name ≡ subcommand_name_of m
     → Some rows ≡ option_map (λ p. p.1) (subcommand_rows (out-ArgMatches m).subcommand)
     → (name ≡ codes "run") ⊎ (name ≡ codes "follow") → (asked : TableRun) → HoldsRun rows asked → AsksRun words asked
+unfolding AsksRun
 holds words m name rows has n r is asked h =
     let found = both (out-ArgMatches m).subcommand (λ b. (out-SubCommand (box_value b)).name.now) (λ b. rows_of (found_of (out-SubCommand (box_value b)).matches)) name rows n r in
     subst (λ f. HoldsRunOf f asked) (sym found ∙ (has refl).1) (is, h)

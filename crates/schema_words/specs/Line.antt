@@ -57,8 +57,8 @@ HoldsRunOf None asked = ⊥
 HoldsRunOf (Some found) asked = ((found.0 ≡ codes "run") ⊎ (found.0 ≡ codes "follow")) × HoldsRun found.1 asked
 
 -- the words ask for this: it is what their matches hold
-abbrev pub AsksCheck : List Text → TableCheck → Type 0
+unfoldable pub AsksCheck : List Text → TableCheck → Type 0
 AsksCheck words asked = HoldsCheckOf (subcommand_of check_line words) asked
 
-abbrev pub AsksRun : List Text → TableRun → Type 0
+unfoldable pub AsksRun : List Text → TableRun → Type 0
 AsksRun words asked = HoldsRunOf (subcommand_of run_line words) asked

@@ -47,6 +47,7 @@ fn line_command<'a>(alloc: Global) -> Result<Command<'a>, AllocError>
 }
 
 /// What the words ask for; `None` where they hold no command after all.
+#[tactic(auto, unfolding(crate::specs::Line::AsksCheck))]
 pub fn read_check_words<'a>(
     alloc: Global,
     words: &'a [&'a str],
