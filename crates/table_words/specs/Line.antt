@@ -65,5 +65,5 @@ HoldsOf None asked = ⊥
 HoldsOf (Some found) asked = HoldsAt found.0 found.1 asked
 
 -- the words ask for this: it is what their matches hold
-abbrev pub Asks : List Text → Asked → Type 0
+unfoldable pub Asks : List Text → Asked → Type 0
 Asks words asked = HoldsOf (subcommand_of line_app words) asked

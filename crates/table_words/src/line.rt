@@ -277,6 +277,7 @@ pub fn matches_of<'a>(
 }
 
 /// What the words ask for; `None` where they hold no command after all.
+#[tactic(auto, unfolding(crate::specs::Line::Asks))]
 pub fn read_words<'a>(alloc: Global, words: &'a [&'a str]) -> Result<Option<Asked<'a>>, LineError>
     ensures { IfOk result (λ asked. IfSome asked (Asks (map (λ s. s.now) words.entry.now))) }
 {
