@@ -11,7 +11,7 @@ use Rattle.csv_epochs.specs.Taken.{AreEpochsOf, AreFirst, AreFirstOf, IsTaken}
 use Rattle.csv_epochs.specs.declared.epoch.Epoch.{Epoch}
 use Rattle.csv_epochs.proofs.TakenOn.{first-none, taken-all, taken-more, taken-on, taken-out, taken-part}
 use Rattle.table_commands.specs.Read.{IsKnownAs}
-use Rattle.table_files.specs.declared.fault.Fault.TheVariants.{Write}
+use Rattle.table_faults.specs.declared.fault.Fault.TheVariants.{Write}
 use Rattle.table_queries.specs.declared.fault.RunFault.{RunFault}
 use Rattle.table_queries.specs.declared.fault.RunFault.TheVariants.{Tables}
 use Rattle.tables.specs.Answers.{header_of}

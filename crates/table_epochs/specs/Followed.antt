@@ -14,7 +14,7 @@ use Rattle.csv_epochs.specs.declared.epoch.Epoch.{Epoch}
 use Rattle.schema.specs.declared.tables.Schema.{Schema}
 use Rattle.schema.specs.declared.tables.Table.{Table}
 use Rattle.table_commands.specs.Read.{IsKnownAs}
-use Rattle.table_files.specs.declared.fault.Fault.TheVariants.{Write}
+use Rattle.table_faults.specs.declared.fault.Fault.TheVariants.{Write}
 use Rattle.table_queries.specs.declared.fault.RunFault.{RunFault}
 use Rattle.table_queries.specs.declared.fault.RunFault.TheVariants.{Tables}
 use Rattle.tables.specs.Answers.{AreDecoded, header_of}

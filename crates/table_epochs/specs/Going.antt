@@ -9,7 +9,7 @@ use Rattle.csv_epochs.specs.Epochs.{Held}
 use Rattle.csv_epochs.specs.Taken.{AreEpochsOf, IsTaken}
 use Rattle.csv_epochs.specs.declared.epoch.Epoch.{Epoch}
 use Rattle.schema.specs.declared.tables.Table.{Table}
-use Rattle.table_files.specs.declared.fault.Fault.TheVariants.{Write}
+use Rattle.table_faults.specs.declared.fault.Fault.TheVariants.{Write}
 use Rattle.table_queries.specs.declared.fault.RunFault.{RunFault}
 use Rattle.table_queries.specs.declared.fault.RunFault.TheVariants.{Tables}
 use Rattle.tables.specs.Answers.{IsDecoded, header_of}

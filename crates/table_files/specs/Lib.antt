@@ -1,2 +1,2 @@
-pub mod Written
+pub use Rattle.table_faults.specs.Written
 pub mod Read

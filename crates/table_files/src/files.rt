@@ -6,12 +6,12 @@ ghost use Rattle.csv_cells.specs.Texts.{texts_of};
 ghost use Rattle.table_files.specs.Read.{AreNamed, AreTexts, IsKnownAs, IsOpenedAs, IsReadSchema};
 ghost use Rattle.tables.specs.Tables.{IsReadDictionary};
 
-use crate::fault::{Fault, WordFault, dictionary_fault, schema_fault};
 use collector::{ReadFault, Sources, Watched, open_named, read_all};
 use csv_cells::{Column, Dictionary, Kind};
 use schema::{Schema, Table, read_schema};
 use std::alloc::Global;
 use std::io::{ErrorKind, Read};
+use table_faults::{Fault, WordFault, dictionary_fault, schema_fault};
 use tables::read_dictionary;
 
 /// All of a file.

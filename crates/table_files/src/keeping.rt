@@ -3,14 +3,14 @@
 ghost use Rattle.std.specs.Prelude.{◌≡◌, ◌⊎◌, IfErr, OnOk};
 ghost use Rattle.std.specs.Io.KnownBytes.{Appends};
 ghost use Rattle.collector.specs.Watching.{inner_of};
-ghost use Rattle.table_files.specs.Written.{IsWriteFault};
+ghost use Rattle.table_faults.specs.Written.{IsWriteFault};
 
 use crate::drafts::Drafts;
-use crate::fault::Fault;
 use collector::{Watched, put};
 use csv_cells::Dictionary;
 use std::alloc::Global;
 use std::io::{ErrorKind, Write};
+use table_faults::Fault;
 use tables::dictionary_text;
 
 /// Begins to write the dictionary of that name, which no other command writes meanwhile.

@@ -1,16 +1,15 @@
-//! The files of the commands for CSV files: a schema, a dictionary and the tables' files, read and written anew, and what may go wrong with them.
+//! The files of the commands for CSV files: a schema, a dictionary and the tables' files, read and written anew.
 #![tactic(auto)]
 
 mod drafts;
-mod fault;
 mod files;
 mod keeping;
 mod writing;
 
 pub use drafts::{DiskDrafts, Draft, Drafts};
-pub use fault::{Detail, Fault, WordFault, table_fault};
 pub use files::{
     dictionary_of, is_input_twice, needs_dictionary, paths_of, read_file, read_files, schema_of,
 };
 pub use keeping::{begin_dictionary, grown_text, keep_dictionary, write_with};
+pub use table_faults::{Detail, Fault, WordFault, table_fault};
 pub use writing::write_text;

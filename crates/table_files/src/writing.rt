@@ -3,11 +3,11 @@
 ghost use Rattle.std.specs.Prelude.{IfErr, OnOk};
 ghost use Rattle.std.specs.Io.KnownBytes.{Appends};
 ghost use Rattle.collector.specs.Watching.{inner_of};
-ghost use Rattle.table_files.specs.Written.{IsWriteFault};
+ghost use Rattle.table_faults.specs.Written.{IsWriteFault};
 
-use crate::fault::Fault;
 use collector::{Watched, put};
 use std::io::Write;
+use table_faults::Fault;
 
 /// Writes a text.
 pub fn write_text<'a, W: Write>(text: &[u8], out: &mut Watched<W>) -> Result<(), Fault<'a>>

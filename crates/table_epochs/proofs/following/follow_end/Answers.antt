@@ -2,7 +2,7 @@ use Rattle.std.proofs.Common.{◌≡◌, ◌∙◌, ◌∷◌, [], true, ap, ref
 use Rattle.std.specs.Io.KnownBytes.{Appends}
 use Rattle.collector.specs.Watching.{inner_of}
 use Rattle.collector.specs.WrittenBytes.{AppendsFront}
-use Rattle.table_files.specs.declared.fault.Fault.TheVariants.{Write}
+use Rattle.table_faults.specs.declared.fault.Fault.TheVariants.{Write}
 use Rattle.table_queries.specs.declared.fault.RunFault.TheVariants.{Tables}
 use Rattle.tables.specs.Answers.{header_of}
 use Rattle.tables.specs.Files.{csv_text}

@@ -1,7 +1,7 @@
 //! What goes wrong in `encode`, `decode` and `kinds`, its status, and its one line.
 
 ghost use Rattle.std.specs.Prelude.{◌≡◌, ◌<◌};
-ghost use Rattle.table_files.specs.Written.{IsWriteFault};
+ghost use Rattle.table_faults.specs.Written.{IsWriteFault};
 
 use csv_cells::{Column, Empty, Kind};
 use record_core::Span;
@@ -119,11 +119,7 @@ pub fn table_fault<'a>(
 }
 
 /// The fault of a dictionary's file that is refused.
-pub(crate) fn dictionary_fault<'a>(
-    alloc: Global,
-    path: &'a str,
-    refusal: TableRefusal,
-) -> Fault<'a> {
+pub fn dictionary_fault<'a>(alloc: Global, path: &'a str, refusal: TableRefusal) -> Fault<'a> {
     let TableRefusal::At { fault, line } = refusal else {
         return Fault::NoMemory;
     };
@@ -161,33 +157,21 @@ fn told(fault: TableFault) -> (u8, &'static str) {
 
 /// Writes what is wrong with words.
 fn write_words<W: Write>(fault: WordFault<'_>, out: &mut W) -> io::Result<()> {
-    match fault {
+    let phrase = match fault {
         WordFault::NoTable(word) => {
-            writeln!(
+            return writeln!(
                 out,
                 "error: '{word}' is no input of the schema, '=' and its file"
-            )
+            );
         }
-        WordFault::Files => writeln!(out, "error: each input of the schema has one NAME=FILE"),
+        WordFault::Files => "each input of the schema has one NAME=FILE",
         WordFault::NoDictionary => {
-            writeln!(
-                out,
-                "error: the schema has texts: their numbers are kept in --dictionary FILE"
-            )
+            "the schema has texts: their numbers are kept in --dictionary FILE"
         }
-        WordFault::NoOutput => {
-            writeln!(
-                out,
-                "error: say which output of the schema it is by --output NAME"
-            )
-        }
-        WordFault::InputTwice => {
-            writeln!(
-                out,
-                "error: only one of the files can be '-', which is standard input"
-            )
-        }
-    }
+        WordFault::NoOutput => "say which output of the schema it is by --output NAME",
+        WordFault::InputTwice => "only one of the files can be '-', which is standard input",
+    };
+    writeln!(out, "error: {phrase}")
 }
 
 /// A name, or a header row, as it is shown: what is no letter, digit or sign of ASCII as `?`.

@@ -1,6 +1,6 @@
 -- At which faults something may have been written.
-use Rattle.table_files.specs.declared.fault.Fault.{Fault}
-use Rattle.table_files.specs.declared.fault.Fault.TheVariants.{Write, Dictionary}
+use Rattle.table_faults.specs.declared.fault.Fault.{Fault}
+use Rattle.table_faults.specs.declared.fault.Fault.TheVariants.{Write, Dictionary}
 
 -- standard output or the dictionary's file failed
 abbrev pub IsWriteFault : Fault → Type 0
