@@ -52,26 +52,41 @@ pub fn keyword(alloc: Global, text: &[u8]) -> Result<String, AllocError> {
     }
 }
 
-/// The fields of a text `3 times -1`, or `1 5`.
-fn fields_of(alloc: Global, text: &str) -> Result<Option<Vec<i64>>, AllocError> {
+/// Puts a number at the end; false where the word is none.
+fn put_field(fields: &mut Vec<i64>, word: &str) -> Result<bool, AllocError> {
+    let Ok(field) = word.parse() else {
+        return Ok(false);
+    };
+    fields.push(field)?;
+    Ok(true)
+}
+
+/// Puts the numbers of a text `1 5` at the end; false where one of them is none.
+fn put_fields(fields: &mut Vec<i64>, text: &str) -> Result<bool, AllocError> {
+    for word in text.split(' ') {
+        if !put_field(fields, word)? {
+            return Ok(false);
+        }
+    }
+    Ok(true)
+}
+
+/// The fields of a text `3 times -1`, or `1 5`; none where a word is no number.
+fn fields_of(alloc: Global, text: &str) -> Result<Vec<i64>, AllocError> {
     let (times, words) = text.split_once(" times ").unwrap_or(("1", text));
     let mut fields = Vec::new(alloc);
     for _ in 0..times.parse::<u32>().unwrap_or(0) {
-        for word in words.split(' ') {
-            match word.parse() {
-                Ok(field) => fields.push(field)?,
-                Err(_) => return Ok(None),
-            }
+        if !put_fields(&mut fields, words)? {
+            fields.clear();
+            break;
         }
     }
-    Ok(Some(fields))
+    Ok(fields)
 }
 
 /// Whether there is a record of these fields. It has them and hashes like them, and its copies are the same.
 pub fn record(alloc: Global, text: &str) -> Result<String, AllocError> {
-    let Some(fields) = fields_of(alloc, text)? else {
-        return word(alloc, "no fields");
-    };
+    let fields = fields_of(alloc, text)?;
     let fields = fields.as_slice();
     match Record::new(fields) {
         Some(record)
@@ -84,13 +99,16 @@ pub fn record(alloc: Global, text: &str) -> Result<String, AllocError> {
     }
 }
 
+/// The record of these fields.
+fn record_of(alloc: Global, text: &str) -> Result<Option<Record>, AllocError> {
+    let fields = fields_of(alloc, text)?;
+    Ok(Record::new(fields.as_slice()))
+}
+
 /// Whether the first of two records is before the second, and they are different: `1 5 before 2`.
 pub fn is_before(alloc: Global, text: &str) -> Result<String, AllocError> {
     let (first, second) = text.split_once(" before ").unwrap_or((text, ""));
-    let (Some(first), Some(second)) = (fields_of(alloc, first)?, fields_of(alloc, second)?) else {
-        return word(alloc, "no fields");
-    };
-    match (Record::new(&first), Record::new(&second)) {
+    match (record_of(alloc, first)?, record_of(alloc, second)?) {
         (Some(low), Some(high)) => yes_or_no(alloc, low < high && high > low && low != high),
         _ => word(alloc, "no record"),
     }

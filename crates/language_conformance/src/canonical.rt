@@ -39,26 +39,39 @@ fn put_scalar(relation: &mut Rel<Global>, scalar: Scalar<Global>) -> Result<(), 
     Ok(())
 }
 
-/// Whether `select(a; SCALAR)` is a source.
-fn is_selected(alloc: Global, scalar: Scalar<Global>) -> Result<String, AllocError> {
-    let Ok(mut program) = parse(alloc, b"output select(a; #0);") else {
-        return word(alloc, "not read");
-    };
+/// Whether a program is a source once the select of its first output has that scalar.
+fn is_source_with(
+    program: &mut Program<Global>,
+    scalar: Scalar<Global>,
+) -> Result<bool, AllocError> {
     if let Some(output) = program.outputs.first_mut() {
         put_scalar(&mut output.relation, scalar)?;
     }
-    yes_or_no(alloc, is_source(&program))
+    Ok(is_source(program))
+}
+
+/// Whether `select(a; SCALAR)` is a source.
+fn is_selected(alloc: Global, scalar: Scalar<Global>) -> Result<bool, Refusal> {
+    let mut program = parse(alloc, b"output select(a; #0);")?;
+    Ok(is_source_with(&mut program, scalar)?)
+}
+
+/// The scalar of a number, or of the column of a `#`.
+fn scalar_of(text: &str) -> Option<Scalar<Global>> {
+    match text.strip_prefix("#") {
+        Some(digits) => Some(Scalar::Column(NOWHERE, digits.parse().ok()?)),
+        None => Some(Scalar::Literal(NOWHERE, text.parse().ok()?)),
+    }
 }
 
 /// Whether a number, or the column of a `#`, is a source in a select.
 pub fn scalar_is_source(alloc: Global, text: &str) -> Result<String, AllocError> {
-    match (
-        text.parse(),
-        text.strip_prefix("#").map(|digits| digits.parse()),
-    ) {
-        (Ok(number), _) => is_selected(alloc, Scalar::Literal(NOWHERE, number)),
-        (_, Some(Ok(column))) => is_selected(alloc, Scalar::Column(NOWHERE, column)),
-        _ => word(alloc, "no scalar"),
+    let Some(scalar) = scalar_of(text) else {
+        return word(alloc, "no scalar");
+    };
+    match is_selected(alloc, scalar) {
+        Ok(answer) => yes_or_no(alloc, answer),
+        Err(refusal) => refused(alloc, refusal),
     }
 }
 
@@ -71,15 +84,18 @@ fn empty(relation: &mut Rel<Global>) {
 
 /// Whether a text is a source, and whether it still is once the join of its first output has no pairs.
 pub fn is_source_without_pairs(alloc: Global, text: &[u8]) -> Result<String, AllocError> {
-    let Ok(mut program) = parse(alloc, text) else {
-        return word(alloc, "not read");
-    };
-    let before = is_source(&program);
+    match parse(alloc, text) {
+        Ok(mut program) => yes_or_no(alloc, is_source_with_pairs_only(&mut program)),
+        Err(refusal) => refused(alloc, refusal),
+    }
+}
+
+fn is_source_with_pairs_only(program: &mut Program<Global>) -> bool {
+    let before = is_source(program);
     if let Some(output) = program.outputs.first_mut() {
         empty(&mut output.relation);
     }
-    let after = is_source(&program);
-    yes_or_no(alloc, before && !after)
+    before && !is_source(program)
 }
 
 /// Whether a text's program, written and read back under that allocator, is the same.
@@ -95,19 +111,23 @@ fn returns_in<B: Allocator + Copy>(
     Ok(same(program, &again))
 }
 
-/// What comes of a text that is written and read back: in memory, in an arena, in a large and in a small heap.
-pub fn returns(memory: Global, text: &[u8]) -> Result<String, AllocError> {
-    let Ok(program) = parse(memory, text) else {
-        return word(memory, "not read");
-    };
+/// Whether a program that is written and read back is the same in memory, in an arena and in a large heap, and is refused in a small one.
+fn all_return(memory: Global, program: &Program<Global>) -> Result<bool, AllocError> {
     let arena = Bump::new(memory);
     let large = LocalHeap::new(memory, 65_536)?;
     let small = LocalHeap::new(memory, 64)?;
-    let answers = [
-        returns_in(memory, &program, memory) == Ok(true),
-        returns_in(memory, &program, &arena) == Ok(true),
-        returns_in(memory, &program, &large) == Ok(true),
-        returns_in(memory, &program, &small) == Err(Refusal::NoMemory),
-    ];
-    yes_or_no(memory, answers == [true; 4])
+    Ok(
+        returns_in(memory, program, memory) == Ok(true)
+            && returns_in(memory, program, &arena) == Ok(true)
+            && returns_in(memory, program, &large) == Ok(true)
+            && returns_in(memory, program, &small) == Err(Refusal::NoMemory),
+    )
+}
+
+/// What comes of a text that is written and read back.
+pub fn returns(memory: Global, text: &[u8]) -> Result<String, AllocError> {
+    match parse(memory, text) {
+        Ok(program) => yes_or_no(memory, all_return(memory, &program)?),
+        Err(refusal) => refused(memory, refusal),
+    }
 }

@@ -1,57 +1,80 @@
 //! Graphs of query texts: their texts, edges, depths and drawings.
 
+use crate::queries::typed_in;
 use crate::texts::{quoted, word, yes_or_no};
 use graph::{EdgeId, Graph, Location, VertexId};
 use graph_text::{graph_dot, graph_text};
 use lowering::lower;
-use parser::parse;
+use record_core::NoMemory;
 use std::alloc::{AllocError, Global};
-use typing::check;
+
+/// What is asked of a graph: its text, its drawing, its sizes, or what lies at a place, as `edge 2` or `vertex 4`.
+#[derive(Clone, Copy)]
+pub enum Asked<'a> {
+    Text,
+    Drawing,
+    Sizes,
+    Place(&'a str),
+}
 
 /// The graph of a query text.
 fn graph_of(alloc: Global, text: &[u8]) -> Option<Graph> {
-    let program = parse(alloc, text).ok()?;
-    let typed = check(alloc, program).ok()?;
+    let typed = typed_in(alloc, alloc, text).ok()?;
     lower(alloc, &typed).ok()
 }
 
-/// The text of a query's graph.
-pub fn text(alloc: Global, query: &[u8]) -> Result<String, AllocError> {
-    let Some(graph) = graph_of(alloc, query) else {
-        return word(alloc, "no graph");
-    };
+/// What is answered of a query's graph.
+pub fn about(alloc: Global, query: &[u8], asked: Asked<'_>) -> Result<String, AllocError> {
+    match graph_of(alloc, query) {
+        Some(graph) => answer(alloc, &graph, asked),
+        None => word(alloc, "no graph"),
+    }
+}
+
+fn answer(alloc: Global, graph: &Graph, asked: Asked<'_>) -> Result<String, AllocError> {
+    match asked {
+        Asked::Text => written(alloc, graph, false),
+        Asked::Drawing => written(alloc, graph, true),
+        Asked::Sizes => sizes(alloc, graph),
+        Asked::Place(place) => at_place(alloc, graph, place),
+    }
+}
+
+/// Puts the text of a graph, or its drawing, at the end.
+fn put(alloc: Global, graph: &Graph, drawn: bool, out: &mut Vec<u8>) -> Result<(), NoMemory> {
+    if drawn {
+        graph_dot(alloc, graph, out)
+    } else {
+        graph_text(alloc, graph, out)
+    }
+}
+
+fn written(alloc: Global, graph: &Graph, drawn: bool) -> Result<String, AllocError> {
     let mut text = Vec::new(alloc);
-    match graph_text(alloc, &graph, &mut text) {
+    match put(alloc, graph, drawn, &mut text) {
         Ok(()) => quoted(alloc, text.as_slice()),
         Err(_) => word(alloc, "no memory"),
     }
 }
 
-/// The drawing of a query's graph.
-pub fn drawing(alloc: Global, query: &[u8]) -> Result<String, AllocError> {
-    let Some(graph) = graph_of(alloc, query) else {
-        return word(alloc, "no graph");
-    };
-    let mut text = Vec::new(alloc);
-    match graph_dot(alloc, &graph, &mut text) {
-        Ok(()) => quoted(alloc, text.as_slice()),
-        Err(_) => word(alloc, "no memory"),
+/// Whether a query's graph is the same as one.
+fn is_graph_of(alloc: Global, graph: &Graph, query: &[u8]) -> bool {
+    match graph_of(alloc, query) {
+        Some(other) => *graph == other,
+        None => false,
     }
 }
 
 /// Whether two queries have the same graph.
 pub fn alike(alloc: Global, first: &[u8], second: &[u8]) -> Result<String, AllocError> {
-    match (graph_of(alloc, first), graph_of(alloc, second)) {
-        (Some(first), Some(second)) => yes_or_no(alloc, first == second),
-        _ => word(alloc, "no graph"),
+    match graph_of(alloc, first) {
+        Some(graph) => yes_or_no(alloc, is_graph_of(alloc, &graph, second)),
+        None => word(alloc, "no graph"),
     }
 }
 
-/// How many vertices, edges and inputs a query's graph has.
-pub fn sizes(alloc: Global, query: &[u8]) -> Result<String, AllocError> {
-    let Some(graph) = graph_of(alloc, query) else {
-        return word(alloc, "no graph");
-    };
+/// How many vertices, edges and inputs a graph has.
+fn sizes(alloc: Global, graph: &Graph) -> Result<String, AllocError> {
     let (vertices, edges, inputs) = (
         graph.vertex_count(),
         graph.edge_count(),
@@ -79,15 +102,11 @@ fn shown_vertex(alloc: Global, graph: &Graph, id: VertexId) -> Result<String, Al
     format!(in alloc; "{depth} deep")
 }
 
-/// What lies at a place of a query's graph, as `edge 2` or `vertex 4`.
-pub fn place(alloc: Global, query: &[u8], place: &str) -> Result<String, AllocError> {
-    let Some(graph) = graph_of(alloc, query) else {
-        return word(alloc, "no graph");
-    };
+fn at_place(alloc: Global, graph: &Graph, place: &str) -> Result<String, AllocError> {
     let (form, number) = place.split_once(' ').unwrap_or((place, ""));
     match (form, number.parse::<u32>()) {
-        ("edge", Ok(number)) => shown_edge(alloc, &graph, EdgeId(number)),
-        ("vertex", Ok(number)) => shown_vertex(alloc, &graph, VertexId(number)),
+        ("edge", Ok(number)) => shown_edge(alloc, graph, EdgeId(number)),
+        ("vertex", Ok(number)) => shown_vertex(alloc, graph, VertexId(number)),
         _ => word(alloc, "no place"),
     }
 }

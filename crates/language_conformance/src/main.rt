@@ -20,7 +20,7 @@ mod tokens;
 mod trees;
 mod values;
 
-use crate::questions::{basic_of, other_of, question_of};
+use crate::questions::question_of;
 use pages::{Blocks, all_hold, call_of, compared, play_on};
 use std::io;
 use std::process::ExitCode;
@@ -33,16 +33,9 @@ impl Blocks for Language {
         let [first, lines @ ..] = block else {
             return Ok(0);
         };
-        let question = call_of(first);
-        match (
-            question_of(question),
-            other_of(question),
-            basic_of(question),
-        ) {
-            (Some(question), _, _) => play_on(rt, first, Ok(question), lines),
-            (None, Some(other), _) => play_on(rt, first, Ok(other), lines),
-            (None, None, Some(basic)) => play_on(rt, first, Ok(basic), lines),
-            _ => compared(rt, first, "no such question"),
+        match question_of(call_of(first)) {
+            Some(question) => play_on(rt, first, Ok(question), lines),
+            None => compared(rt, first, "no such question"),
         }
     }
 }

@@ -1,7 +1,7 @@
 //! The nodes of the first output of a query, each before its parts and with its place in the text.
 
 use crate::texts::{add, place, refused, word};
-use expr_tree::{Comparison, Cond, Connective, Operator, Rel, Scalar};
+use expr_tree::{Comparison, Cond, Connective, Operator, Program, Rel, Scalar};
 use parser::parse;
 use record_core::Span;
 use std::alloc::{AllocError, Global};
@@ -11,6 +11,19 @@ fn node(alloc: Global, list: &mut String, name: &str, span: Span) -> Result<(), 
     let place = place(alloc, span)?;
     let item = format!(in alloc; "{name} {place}")?;
     add(list, item.as_str())
+}
+
+fn operator_node(
+    alloc: Global,
+    list: &mut String,
+    operator: Operator,
+    span: Span,
+) -> Result<(), AllocError> {
+    match operator {
+        Operator::Add => node(alloc, list, "+", span),
+        Operator::Subtract => node(alloc, list, "-", span),
+        Operator::Multiply => node(alloc, list, "*", span),
+    }
 }
 
 fn scalar_nodes(
@@ -28,12 +41,7 @@ fn scalar_nodes(
             node(alloc, list, column.as_str(), *span)
         }
         Scalar::Binary(span, operator, left, right) => {
-            let name = match operator {
-                Operator::Add => "+",
-                Operator::Subtract => "-",
-                Operator::Multiply => "*",
-            };
-            node(alloc, list, name, *span)?;
+            operator_node(alloc, list, *operator, *span)?;
             scalar_nodes(alloc, list, left)?;
             scalar_nodes(alloc, list, right)
         }
@@ -44,14 +52,31 @@ fn scalar_nodes(
     }
 }
 
-fn comparison_name(comparison: &Comparison) -> &'static str {
+fn comparison_node(
+    alloc: Global,
+    list: &mut String,
+    comparison: Comparison,
+    span: Span,
+) -> Result<(), AllocError> {
     match comparison {
-        Comparison::Equal => "=",
-        Comparison::NotEqual => "!=",
-        Comparison::Less => "<",
-        Comparison::AtMost => "<=",
-        Comparison::Greater => ">",
-        Comparison::AtLeast => ">=",
+        Comparison::Equal => node(alloc, list, "=", span),
+        Comparison::NotEqual => node(alloc, list, "!=", span),
+        Comparison::Less => node(alloc, list, "<", span),
+        Comparison::AtMost => node(alloc, list, "<=", span),
+        Comparison::Greater => node(alloc, list, ">", span),
+        Comparison::AtLeast => node(alloc, list, ">=", span),
+    }
+}
+
+fn connective_node(
+    alloc: Global,
+    list: &mut String,
+    connective: Connective,
+    span: Span,
+) -> Result<(), AllocError> {
+    match connective {
+        Connective::And => node(alloc, list, "and", span),
+        Connective::Or => node(alloc, list, "or", span),
     }
 }
 
@@ -62,16 +87,12 @@ fn cond_nodes(
 ) -> Result<(), AllocError> {
     match condition {
         Cond::Compare(span, comparison, left, right) => {
-            node(alloc, list, comparison_name(comparison), *span)?;
+            comparison_node(alloc, list, *comparison, *span)?;
             scalar_nodes(alloc, list, left)?;
             scalar_nodes(alloc, list, right)
         }
         Cond::Logical(span, connective, left, right) => {
-            let name = match connective {
-                Connective::And => "and",
-                Connective::Or => "or",
-            };
-            node(alloc, list, name, *span)?;
+            connective_node(alloc, list, *connective, *span)?;
             cond_nodes(alloc, list, left)?;
             cond_nodes(alloc, list, right)
         }
@@ -100,10 +121,13 @@ fn relation_nodes(
 
 /// The nodes of a text's first output.
 pub fn nodes(alloc: Global, text: &[u8]) -> Result<String, AllocError> {
-    let program = match parse(alloc, text) {
-        Ok(program) => program,
-        Err(refusal) => return refused(alloc, refusal),
-    };
+    match parse(alloc, text) {
+        Ok(program) => nodes_of(alloc, &program),
+        Err(refusal) => refused(alloc, refusal),
+    }
+}
+
+fn nodes_of(alloc: Global, program: &Program<Global>) -> Result<String, AllocError> {
     let Some(output) = program.outputs.first() else {
         return word(alloc, "no output");
     };

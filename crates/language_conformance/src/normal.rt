@@ -1,15 +1,16 @@
 //! Normal forms, from text to text.
 
 use crate::held::put;
-use crate::texts::{quoted, word, yes_or_no};
+use crate::queries::{typed, typed_in};
+use crate::texts::{quoted, refused, word, yes_or_no};
 use bumpalo::Bump;
 use expr_tree::{Comparison, Cond, Operator, Program, Rel, Scalar, rel_size};
 use linked_list_allocator::LocalHeap;
 use normalise::normalise;
 use parser::parse;
-use record_core::{NoMemory, Span};
+use record_core::{NoMemory, Refusal, Span};
 use std::alloc::{AllocError, Allocator, Global};
-use typing::{Typed, check};
+use typing::Typed;
 use writer::{is_source, write_program};
 
 /// The text of a query's normal form; empty where it has none, and `None` where the query is refused.
@@ -18,27 +19,27 @@ fn text_in<A: Allocator + Copy>(
     alloc: A,
     query: &[u8],
 ) -> Result<Option<Vec<u8>>, AllocError> {
-    let Ok(program) = parse(alloc, query) else {
-        return Ok(None);
-    };
-    let Ok(typed) = check(global, program) else {
-        return Ok(None);
-    };
-    normal_text(global, typed)
+    match normal_in(global, alloc, query) {
+        Ok(normal) => Ok(written(global, normal.program())),
+        Err(_) => Ok(None),
+    }
 }
 
-fn normal_text<A: Allocator + Copy>(
+/// The normal form of a query whose tree lies there.
+fn normal_in<A: Allocator + Copy>(
     global: Global,
-    typed: Typed<A>,
-) -> Result<Option<Vec<u8>>, AllocError> {
-    let Ok(normal) = normalise(typed) else {
-        return Ok(None);
-    };
+    alloc: A,
+    query: &[u8],
+) -> Result<Typed<A>, Refusal> {
+    Ok(normalise(typed_in(global, alloc, query)?)?)
+}
+
+fn written<A: Allocator>(global: Global, program: &Program<A>) -> Option<Vec<u8>> {
     let mut text = Vec::new(global);
-    if is_source(normal.program()) && write_program(normal.program(), &mut text).is_err() {
-        return Ok(None);
+    if is_source(program) && write_program(program, &mut text).is_err() {
+        return None;
     }
-    Ok(Some(text))
+    Some(text)
 }
 
 /// The same in a heap, which is empty afterwards.
@@ -72,16 +73,14 @@ pub fn normal(global: Global, query: &[u8]) -> Result<String, AllocError> {
 
 /// The one scalar of a query's normal form, where that is a number.
 pub fn folded(alloc: Global, query: &[u8]) -> Result<String, AllocError> {
-    let Ok(program) = parse(alloc, query) else {
-        return word(alloc, "not read");
-    };
-    let Ok(typed) = check(alloc, program) else {
-        return word(alloc, "not well typed");
-    };
-    let Ok(normal) = normalise(typed) else {
-        return word(alloc, "no memory");
-    };
-    match normal.program().outputs.first() {
+    match normal_in(alloc, alloc, query) {
+        Ok(normal) => number_of(alloc, normal.program()),
+        Err(refusal) => refused(alloc, refusal),
+    }
+}
+
+fn number_of(alloc: Global, program: &Program<Global>) -> Result<String, AllocError> {
+    match program.outputs.first() {
         Some(output) => number_in(alloc, &output.relation),
         None => word(alloc, "no output"),
     }
@@ -97,27 +96,36 @@ fn number_in(alloc: Global, relation: &Rel<Global>) -> Result<String, AllocError
     }
 }
 
-/// Whether the normaliser was refused memory, where there was room for the query.
-fn refused_in<A: Allocator + Copy>(
+/// A typed copy of a program.
+fn typed_copy<A: Allocator + Copy>(
     global: Global,
     alloc: A,
     program: &Program<Global>,
-) -> Option<bool> {
-    let typed = check(global, program.copy_in(alloc).ok()?).ok()?;
-    Some(normalise(typed).is_err())
+) -> Result<Typed<A>, Refusal> {
+    typed(global, program.copy_in(alloc)?)
+}
+
+/// Whether the normaliser was refused memory, where there was room for the query.
+fn refused_in<A: Allocator + Copy>(global: Global, alloc: A, program: &Program<Global>) -> bool {
+    match typed_copy(global, alloc, program) {
+        Ok(typed) => normalise(typed).is_err(),
+        Err(_) => false,
+    }
 }
 
 /// Whether there is room for the query alone somewhere between a heap that has no room for it and one that has room for all.
 pub fn crowds(alloc: Global, query: &[u8]) -> Result<String, AllocError> {
-    let Ok(program) = parse(alloc, query) else {
-        return word(alloc, "not read");
-    };
+    match parse(alloc, query) {
+        Ok(program) => crowded(alloc, &program),
+        Err(refusal) => refused(alloc, refusal),
+    }
+}
+
+fn crowded(alloc: Global, program: &Program<Global>) -> Result<String, AllocError> {
     let mut refused = false;
     for step in 0..128usize {
         let heap = LocalHeap::new(alloc, 128 + 16 * step)?;
-        if refused_in(alloc, &heap, &program) == Some(true) {
-            refused = true;
-        }
+        refused = refused_in(alloc, &heap, program) || refused;
         if heap.used() != 0 {
             return word(alloc, "memory is in use");
         }
@@ -171,34 +179,38 @@ fn put_chain(
     Ok(())
 }
 
-/// The size of the first output's normal form.
-fn size_of_normal(alloc: Global, program: Program<Global>) -> Result<String, AllocError> {
-    let Ok(typed) = check(alloc, program) else {
-        return word(alloc, "not well typed");
-    };
-    let Ok(normal) = normalise(typed) else {
-        return word(alloc, "no memory");
-    };
-    match normal.program().outputs.first() {
-        Some(output) => {
-            let size = rel_size(&output.relation);
-            format!(in alloc; "{size}")
-        }
-        None => word(alloc, "no output"),
+/// The size of the first output's relation; 0 where there is none.
+fn size_of(program: &Program<Global>) -> u64 {
+    match program.outputs.first() {
+        Some(output) => rel_size(&output.relation),
+        None => 0,
     }
+}
+
+/// The size of the first output's normal form.
+fn size_of_normal(alloc: Global, program: Program<Global>) -> Result<u64, Refusal> {
+    let normal = normalise(typed(alloc, program)?)?;
+    Ok(size_of(normal.program()))
+}
+
+/// `input a/1; output a;` with that many selects or wheres over the name.
+fn chain(alloc: Global, count: u32, wheres: bool) -> Result<Program<Global>, Refusal> {
+    let mut program = parse(alloc, b"input a/1; output a;")?;
+    if let Some(output) = program.outputs.first_mut() {
+        put_chain(alloc, &mut output.relation, count, wheres)?;
+    }
+    Ok(program)
+}
+
+fn size_of_normal_chain(alloc: Global, count: u32, wheres: bool) -> Result<u64, Refusal> {
+    size_of_normal(alloc, chain(alloc, count, wheres)?)
 }
 
 /// The size of the normal form of many selects or wheres over one another, as `1000 wheres`. A thousand are higher than a text may be.
 pub fn size_of_chain(alloc: Global, text: &str) -> Result<String, AllocError> {
     let (count, form) = text.split_once(' ').unwrap_or((text, ""));
-    let (Ok(count), Ok(mut program)) = (count.parse::<u32>(), parse(alloc, b"input a/1; output a;"))
-    else {
-        return word(alloc, "no number");
-    };
-    if let Some(output) = program.outputs.first_mut() {
-        if put_chain(alloc, &mut output.relation, count, form == "wheres").is_err() {
-            return word(alloc, "no memory");
-        }
+    match size_of_normal_chain(alloc, count.parse().unwrap_or(0), form == "wheres") {
+        Ok(size) => format!(in alloc; "{size}"),
+        Err(refusal) => refused(alloc, refusal),
     }
-    size_of_normal(alloc, program)
 }

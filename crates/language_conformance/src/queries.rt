@@ -4,8 +4,8 @@ use crate::texts::{refused, word};
 use expr_tree::{Program, Rel};
 use parser::parse;
 use record_core::Refusal;
-use std::alloc::{AllocError, Global};
-use typing::check;
+use std::alloc::{AllocError, Allocator, Global};
+use typing::{Typed, check};
 
 /// `right`, or why it is refused.
 fn shown(alloc: Global, refusal: Option<Refusal>) -> Result<String, AllocError> {
@@ -20,20 +20,26 @@ pub fn reads(alloc: Global, text: &[u8]) -> Result<String, AllocError> {
     shown(alloc, parse(alloc, text).err())
 }
 
-/// What a program is refused with.
-fn refusal_of(alloc: Global, program: Program<Global>) -> Option<Refusal> {
+/// A program as a typed one, or why it is refused.
+pub fn typed<A: Allocator>(alloc: Global, program: Program<A>) -> Result<Typed<A>, Refusal> {
     match check(alloc, program) {
-        Ok(_) => None,
-        Err((_, refusal)) => Some(refusal),
+        Ok(typed) => Ok(typed),
+        Err((_, refusal)) => Err(refusal),
     }
+}
+
+/// The typed query of a text, whose tree lies there.
+pub fn typed_in<A: Allocator + Copy>(
+    global: Global,
+    alloc: A,
+    text: &[u8],
+) -> Result<Typed<A>, Refusal> {
+    typed(global, parse(alloc, text)?)
 }
 
 /// Whether the query of a text is well typed.
 pub fn checks(alloc: Global, text: &[u8]) -> Result<String, AllocError> {
-    match parse(alloc, text) {
-        Ok(program) => shown(alloc, refusal_of(alloc, program)),
-        Err(refusal) => refused(alloc, refusal),
-    }
+    shown(alloc, typed_in(alloc, alloc, text).err())
 }
 
 /// Lets go of the scalars of a select.
@@ -43,29 +49,41 @@ fn empty(relation: &mut Rel<Global>) {
     }
 }
 
-/// Whether the query is well typed once the select of its first output has no scalars.
-pub fn checks_without_scalars(alloc: Global, text: &[u8]) -> Result<String, AllocError> {
-    let Ok(mut program) = parse(alloc, text) else {
-        return word(alloc, "not read");
-    };
+/// A query whose first output's select has no scalars any more.
+fn without_scalars(alloc: Global, text: &[u8]) -> Result<Program<Global>, Refusal> {
+    let mut program = parse(alloc, text)?;
     if let Some(output) = program.outputs.first_mut() {
         empty(&mut output.relation);
     }
-    shown(alloc, refusal_of(alloc, program))
+    Ok(program)
+}
+
+/// Whether the query is well typed once the select of its first output has no scalars.
+pub fn checks_without_scalars(alloc: Global, text: &[u8]) -> Result<String, AllocError> {
+    match without_scalars(alloc, text) {
+        Ok(program) => shown(alloc, typed(alloc, program).err()),
+        Err(refusal) => refused(alloc, refusal),
+    }
 }
 
 /// The numbers of inputs and of lets of a typed query, and the fields of its outputs.
 pub fn types(alloc: Global, text: &[u8]) -> Result<String, AllocError> {
-    let Ok(program) = parse(alloc, text) else {
-        return word(alloc, "not read");
-    };
-    let Ok(typed) = check(alloc, program) else {
-        return word(alloc, "not well typed");
-    };
+    match typed_in(alloc, alloc, text) {
+        Ok(typed) => types_of(alloc, &typed),
+        Err(refusal) => refused(alloc, refusal),
+    }
+}
+
+/// Puts a number at the end, after a space.
+fn put_number(alloc: Global, list: &mut String, number: u64) -> Result<(), AllocError> {
+    list.push_str(format!(in alloc; " {number}")?.as_str())
+}
+
+fn types_of(alloc: Global, typed: &Typed<Global>) -> Result<String, AllocError> {
     let (inputs, lets) = (typed.inputs().len(), typed.program().lets.len());
     let mut list = format!(in alloc; "{inputs} inputs, {lets} lets, outputs of")?;
     for arity in typed.output_arities() {
-        list.push_str(format!(in alloc; " {arity}")?.as_str())?;
+        put_number(alloc, &mut list, *arity)?;
     }
     Ok(list)
 }
@@ -82,14 +100,14 @@ pub fn beginnings(alloc: Global, text: &[u8]) -> Result<String, AllocError> {
     format!(in alloc; "{cut} refused")
 }
 
-/// Whether the text is accepted, or refused with a code of the reader and a span inside the text.
-fn has_sound_answer(alloc: Global, text: &[u8]) -> bool {
-    match parse(alloc, text) {
-        Ok(_) => true,
-        Err(Refusal::At { code, span }) => {
-            code >= 1 && code <= 5 && span.start <= span.end && span.end as usize <= text.len()
+/// Whether there is no refusal, or one with a code of the reader and a span inside a text of that many bytes.
+fn is_sound(refusal: Option<Refusal>, length: usize) -> bool {
+    match refusal {
+        None => true,
+        Some(Refusal::At { code: 1..=5, span }) => {
+            span.start <= span.end && span.end as usize <= length
         }
-        Err(Refusal::NoMemory) => false,
+        Some(_) => false,
     }
 }
 
@@ -100,7 +118,7 @@ pub fn changes(alloc: Global, text: &[u8]) -> Result<String, AllocError> {
     for place in 0..text.len() {
         for byte in 0..=255u8 {
             changed[place] = byte;
-            if !has_sound_answer(alloc, changed.as_slice()) {
+            if !is_sound(parse(alloc, changed.as_slice()).err(), text.len()) {
                 return format!(in alloc; "none to {byte} at {place}");
             }
             sound = sound.saturating_add(1);

@@ -4,20 +4,30 @@ use crate::texts::{add, word};
 use schedule::{Fault, Line, ScheduleRefusal, ViewKind, read_schedule};
 use std::alloc::{AllocError, Global};
 
+fn with_one(alloc: Global, verb: &str, number: u32) -> Result<String, AllocError> {
+    format!(in alloc; "{verb} {number}")
+}
+
+fn with_two(alloc: Global, verb: &str, first: u32, second: u32) -> Result<String, AllocError> {
+    format!(in alloc; "{verb} {first} {second}")
+}
+
+fn feed(alloc: Global, fields: &[i64]) -> Result<String, AllocError> {
+    let count = fields.len();
+    format!(in alloc; "feed {count} fields")
+}
+
 /// A step as a text.
 fn shown(alloc: Global, line: &Line<'_>) -> Result<String, AllocError> {
     match line {
-        Line::Feed { fields, .. } => {
-            let count = fields.len();
-            format!(in alloc; "feed {count} fields")
-        }
+        Line::Feed { fields, .. } => feed(alloc, fields.as_slice()),
         Line::Seal { .. } => word(alloc, "seal"),
         Line::Close { .. } => word(alloc, "close"),
-        Line::Take { worker, choice } => format!(in alloc; "take {worker} {choice}"),
-        Line::Commit { worker } => format!(in alloc; "commit {worker}"),
-        Line::Deliver { worker, choice } => format!(in alloc; "deliver {worker} {choice}"),
-        Line::Print { epoch } => format!(in alloc; "print {epoch}"),
-        Line::Apply { worker, sender } => format!(in alloc; "apply {worker} {sender}"),
+        Line::Take { worker, choice } => with_two(alloc, "take", *worker, *choice),
+        Line::Commit { worker } => with_one(alloc, "commit", *worker),
+        Line::Deliver { worker, choice } => with_two(alloc, "deliver", *worker, *choice),
+        Line::Print { epoch } => with_one(alloc, "print", *epoch),
+        Line::Apply { worker, sender } => with_two(alloc, "apply", *worker, *sender),
     }
 }
 

@@ -16,13 +16,18 @@ const ESCAPES: [(&str, u8); 9] = [
     ("xff", 255),
 ];
 
+/// Puts a byte, and the text that follows it, at the end.
+fn put_byte(out: &mut Vec<u8>, byte: u8, rest: &str) -> Result<bool, AllocError> {
+    out.push(byte)?;
+    out.extend_from_slice(rest.as_bytes())?;
+    Ok(true)
+}
+
 /// Puts one escape, and what follows it up to the next `\`, at the end; false where it is none.
 fn put_escape(out: &mut Vec<u8>, part: &str) -> Result<bool, AllocError> {
     for (escape, byte) in &ESCAPES {
         if let Some(rest) = part.strip_prefix(*escape) {
-            out.push(*byte)?;
-            out.extend_from_slice(rest.as_bytes())?;
-            return Ok(true);
+            return put_byte(out, *byte, rest);
         }
     }
     Ok(false)
@@ -42,7 +47,7 @@ fn put(out: &mut Vec<u8>, quoted: &str) -> Result<bool, AllocError> {
 
 /// How often a text is repeated: 1, or what stands before it, as `62*`.
 fn repeats(before: &str) -> Option<u32> {
-    let before = before.trim();
+    let before = before.strip_prefix(" ").unwrap_or(before);
     if before.is_empty() {
         return Some(1);
     }
@@ -72,31 +77,30 @@ pub fn text_of(alloc: Global, pieces: &str) -> Result<Option<Vec<u8>>, AllocErro
 
 /// Two texts, as `"a" and "b"`.
 pub fn two_texts(alloc: Global, pieces: &str) -> Result<Option<(Vec<u8>, Vec<u8>)>, AllocError> {
-    let (first, second) = pieces.split_once("\" and \"").unwrap_or((pieces, ""));
-    let first = format!(in alloc; "{first}\"")?;
-    let second = format!(in alloc; "\"{second}")?;
-    match (
-        text_of(alloc, first.as_str())?,
-        text_of(alloc, second.as_str())?,
-    ) {
-        (Some(first), Some(second)) => Ok(Some((first, second))),
-        _ => Ok(None),
+    let (first, second) = pieces.split_once("\" and ").unwrap_or((pieces, ""));
+    let Some(first) = text_of(alloc, first)? else {
+        return Ok(None);
+    };
+    Ok(text_of(alloc, second)?.map(|second| (first, second)))
+}
+
+/// Puts a text at the end, with `\n` for the end of a line.
+fn put_lines(out: &mut String, text: &str) -> Result<(), AllocError> {
+    for (number, line) in text.split('\n').enumerate() {
+        if number > 0 {
+            out.push_str("\\n")?;
+        }
+        out.push_str(line)?;
     }
+    Ok(())
 }
 
 /// Bytes as a text, with `\n` for the end of a line.
 pub fn quoted(alloc: Global, bytes: &[u8]) -> Result<String, AllocError> {
-    let mut text = String::new(alloc);
-    for (number, line) in String::from_utf8_lossy(alloc, bytes)?
-        .split('\n')
-        .enumerate()
-    {
-        if number > 0 {
-            text.push_str("\\n")?;
-        }
-        text.push_str(line)?;
-    }
-    Ok(text)
+    let text = String::from_utf8_lossy(alloc, bytes)?;
+    let mut out = String::new(alloc);
+    put_lines(&mut out, text.as_str())?;
+    Ok(out)
 }
 
 /// A word that is answered.

@@ -19,22 +19,28 @@ fn shown(alloc: Global, token: &Token) -> Result<String, AllocError> {
     }
 }
 
+/// A word, and where it is.
+fn placed(alloc: Global, word: &str, place: &str) -> Result<String, AllocError> {
+    format!(in alloc; "{word} {place}")
+}
+
 fn marked(alloc: Global, text: &[u8], place: &str) -> Result<String, AllocError> {
     let text = String::from_utf8_lossy(alloc, text)?;
-    let text = text.as_str();
-    format!(in alloc; "{text} {place}")
+    placed(alloc, text.as_str(), place)
 }
 
 /// All tokens of a text, or why it is refused.
 pub fn tokens(alloc: Global, text: &[u8]) -> Result<String, AllocError> {
-    let tokens = match lex(alloc, text) {
-        Ok(tokens) => tokens,
-        Err(refusal) => return refused(alloc, refusal),
-    };
+    match lex(alloc, text) {
+        Ok(tokens) => listed(alloc, tokens.as_slice()),
+        Err(refusal) => refused(alloc, refusal),
+    }
+}
+
+fn listed(alloc: Global, tokens: &[Token]) -> Result<String, AllocError> {
     let mut list = String::new(alloc);
-    for token in tokens.iter() {
-        let item = shown(alloc, token)?;
-        add(&mut list, item.as_str())?;
+    for token in tokens {
+        add(&mut list, shown(alloc, token)?.as_str())?;
     }
     if list.is_empty() {
         return word(alloc, "nothing");

@@ -29,36 +29,45 @@ impl Places {
     }
 }
 
-/// Whether the trees that are read in memory, in an arena and in a heap are the same.
-fn are_read(first: &Program<Global>, text: &[u8], places: &Places) -> Result<bool, Refusal> {
-    let second = parse(&places.arena, text)?;
-    let third = parse(&places.heap, text)?;
-    Ok(same(first, &second) && same(&second, &third))
+/// Whether a text's tree there is the same.
+fn is_read<B: Allocator + Copy>(
+    first: &Program<Global>,
+    text: &[u8],
+    alloc: B,
+) -> Result<bool, Refusal> {
+    Ok(same(first, &parse(alloc, text)?))
 }
 
-/// Whether a copy is the same.
-fn is_copied<B: Allocator + Copy>(first: &Program<Global>, alloc: B) -> Result<bool, Refusal> {
-    Ok(same(first, &first.copy_in(alloc)?))
+/// Whether a copy of a tree is the same as the first.
+fn is_copied<A: Allocator, B: Allocator + Copy>(
+    first: &Program<Global>,
+    of: &Program<A>,
+    alloc: B,
+) -> Result<bool, Refusal> {
+    Ok(same(first, &of.copy_in(alloc)?))
 }
 
-/// Whether a copy in a heap is the same, and a copy of that.
+/// Whether a copy of a copy in a heap is the same.
 fn is_copied_back(
     alloc: Global,
     first: &Program<Global>,
     heap: &LocalHeap,
 ) -> Result<bool, Refusal> {
-    let in_heap = first.copy_in(heap)?;
-    let back = in_heap.copy_in(alloc)?;
-    Ok(same(first, &in_heap) && same(&back, first))
+    match first.copy_in(heap) {
+        Ok(in_heap) => is_copied(first, &in_heap, alloc),
+        Err(no_memory) => Err(Refusal::from(no_memory)),
+    }
 }
 
 /// The same of all of them.
 fn are_same(alloc: Global, text: &[u8], places: &Places, others: &Places) -> Result<bool, Refusal> {
     let first = parse(alloc, text)?;
     Ok(
-        are_read(&first, text, places)?
-            && is_copied(&first, alloc)?
-            && is_copied(&first, &others.arena)?
+        is_read(&first, text, &places.arena)?
+            && is_read(&first, text, &places.heap)?
+            && is_copied(&first, &first, alloc)?
+            && is_copied(&first, &first, &others.arena)?
+            && is_copied(&first, &first, &others.heap)?
             && is_copied_back(alloc, &first, &others.heap)?,
     )
 }
@@ -77,19 +86,23 @@ pub fn copies(alloc: Global, text: &[u8]) -> Result<String, AllocError> {
     }
 }
 
-/// Whether a copy and a text are refused in a heap of that many bytes, which is empty afterwards.
-fn refuses(alloc: Global, text: &[u8], heap: &LocalHeap) -> Result<bool, Refusal> {
-    let program = parse(alloc, text)?;
-    Ok(program.copy_in(heap).is_err() && parse(heap, text).err() == Some(Refusal::NoMemory))
+/// Whether a heap has no room for a copy.
+fn refuses_copy(program: &Program<Global>, heap: &LocalHeap) -> bool {
+    program.copy_in(heap).is_err()
+}
+
+/// Whether a heap has no room for a text.
+fn refuses_text(text: &[u8], heap: &LocalHeap) -> bool {
+    parse(heap, text).err() == Some(Refusal::NoMemory)
 }
 
 /// Whether a heap of 64 bytes refuses a text and a copy of its tree, and is empty afterwards.
 pub fn crowds(alloc: Global, text: &[u8]) -> Result<String, AllocError> {
     let heap = LocalHeap::new(alloc, 64)?;
-    match refuses(alloc, text, &heap) {
-        Ok(answer) => yes_or_no(
+    match parse(alloc, text) {
+        Ok(program) => yes_or_no(
             alloc,
-            answer && heap.used() == 0 && parse(alloc, text).is_ok(),
+            refuses_copy(&program, &heap) && refuses_text(text, &heap) && heap.used() == 0,
         ),
         Err(refusal) => refused(alloc, refusal),
     }

@@ -1,6 +1,7 @@
 //! Values of scalars and conditions, and places that children are taken from.
 
 use crate::held::boxed;
+use crate::questions::found;
 use crate::texts::{refused, word, yes_or_no};
 use expr_tree::{
     Comparison, Cond, Operator, Rel, Scalar, cond_size, copy_cond, copy_rel, copy_scalar,
@@ -11,21 +12,18 @@ use std::alloc::{AllocError, Global};
 
 const HERE: Span = Span { start: 0, end: 1 };
 
-/// A number, a word and a number, as `-1 < 0`.
-fn parts_of<'a>(text: &'a str) -> Option<(i64, &'a str, i64)> {
+/// A number, what a table has for a word, and a number, as `-1 < 0`.
+fn parts_of<T: Copy>(rows: &[(&str, T)], text: &str) -> Option<(i64, T, i64)> {
     let (left, rest) = text.split_once(' ')?;
     let (word, right) = rest.split_once(' ')?;
-    Some((left.parse().ok()?, word, right.parse().ok()?))
+    Some((left.parse().ok()?, found(rows, word)?, right.parse().ok()?))
 }
 
-fn operator_of(text: &str) -> Option<Operator> {
-    match text {
-        "+" => Some(Operator::Add),
-        "-" => Some(Operator::Subtract),
-        "*" => Some(Operator::Multiply),
-        _ => None,
-    }
-}
+const OPERATORS: [(&str, Operator); 3] = [
+    ("+", Operator::Add),
+    ("-", Operator::Subtract),
+    ("*", Operator::Multiply),
+];
 
 /// The value of an operator between two literals.
 fn value_of(alloc: Global, operator: Operator, left: i64, right: i64) -> Result<i64, NoMemory> {
@@ -37,11 +35,8 @@ fn value_of(alloc: Global, operator: Operator, left: i64, right: i64) -> Result<
 
 /// The value of `-9223372036854775808 - 1`, as an operation and as a scalar.
 pub fn value(alloc: Global, text: &str) -> Result<String, AllocError> {
-    let Some((left, sign, right)) = parts_of(text) else {
+    let Some((left, operator, right)) = parts_of(&OPERATORS, text) else {
         return word(alloc, "no operation");
-    };
-    let Some(operator) = operator_of(sign) else {
-        return word(alloc, "no operator");
     };
     match value_of(alloc, operator, left, right) {
         Ok(value) if value == operate(operator, left, right) => format!(in alloc; "{value}"),
@@ -68,24 +63,18 @@ pub fn negation(alloc: Global, text: &str) -> Result<String, AllocError> {
     }
 }
 
-fn comparison_of(text: &str) -> Option<Comparison> {
-    match text {
-        "=" => Some(Comparison::Equal),
-        "!=" => Some(Comparison::NotEqual),
-        "<" => Some(Comparison::Less),
-        "<=" => Some(Comparison::AtMost),
-        ">" => Some(Comparison::Greater),
-        ">=" => Some(Comparison::AtLeast),
-        _ => None,
-    }
-}
+const COMPARISONS: [(&str, Comparison); 6] = [
+    ("=", Comparison::Equal),
+    ("!=", Comparison::NotEqual),
+    ("<", Comparison::Less),
+    ("<=", Comparison::AtMost),
+    (">", Comparison::Greater),
+    (">=", Comparison::AtLeast),
+];
 
 /// Whether a comparison holds between two fields of a record, as `-1 < 0`.
 pub fn comparison(alloc: Global, text: &str) -> Result<String, AllocError> {
-    let Some((left, sign, right)) = parts_of(text) else {
-        return word(alloc, "no comparison");
-    };
-    let Some(comparison) = comparison_of(sign) else {
+    let Some((left, comparison, right)) = parts_of(&COMPARISONS, text) else {
         return word(alloc, "no comparison");
     };
     let condition = Cond::<Global>::Compare(
