@@ -183,12 +183,11 @@ taken-front f start now text header a b c fault s h none is w = record {
 -- all was written
 pub taken-whole : (f : Followed) (start now : Reached) (text header : List ℕ) (a b c : Option (List ℕ)) → IsStart start
     → HasTaken f start now text header a b
-    → (now.count ≡ 0 → Appends b c (csv_text (header_of f.table true ∷ []))) → (now.count ≢ 0 → c ≡ b) → FollowsAll f text a c
+    → (now.count ≡ 0 → Appends b c (csv_text (header_of f.table true ∷ []))) → (now.count ≢ 0 → c ≡ b) → FollowsAll f start text a c
 taken-whole f start now text header a b c s h none some = record {
   header = header;
   epochs = h.epochs;
   split = h.split;
-  start = start;
   is_start = s;
   end = now;
   rows = h.written.rows;
@@ -197,12 +196,13 @@ taken-whole f start now text header a b c s h none some = record {
 }
 
 -- a fault behind all that was followed
-pub all-part : (f : Followed) (text : List ℕ) (a b : Option (List ℕ)) (fault : RunFault) → FollowsAll f text a b → FollowsPart f text fault a b
-all-part f text a b fault h = record {
+pub all-part : (f : Followed) (start : Reached) (text : List ℕ) (a b : Option (List ℕ)) (fault : RunFault) → FollowsAll f start text a b
+    → FollowsPart f text fault a b
+all-part f start text a b fault h = record {
   epochs = h.epochs;
   split = epochs-front f.column text h.header h.epochs [] (subst (λ (es : List Epoch). AreEpochsOf f.column text h.header es)
       (sym (append-nil h.epochs)) h.split);
-  start = h.start;
+  start = start;
   is_start = h.is_start;
   end = h.end;
   rows = h.rows;

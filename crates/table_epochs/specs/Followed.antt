@@ -83,12 +83,11 @@ pub record IsStart (r : Reached) : Type 0 where
   pub count : r.count ≡ 0
   pub last : r.last ≡ None
 
--- all of the text of the file that arrives was read, and the rows of its epochs were written
-pub record FollowsAll (f : Followed) (text : List ℕ) (old new : Option (List ℕ)) : Type 0 where
+-- all of the text of the file that arrives was read, and the rows of its epochs were written, from that start
+pub record FollowsAll (f : Followed) (start : Reached) (text : List ℕ) (old new : Option (List ℕ)) : Type 0 where
   pub header : List ℕ
   pub epochs : List Epoch
   pub split : AreEpochsOf f.column text header epochs
-  pub start : Reached
   pub is_start : IsStart start
   pub end : Reached
   pub rows : List (List (List ℕ))
@@ -116,8 +115,8 @@ abbrev pub BeginsAs : (known : Option (List ℕ)) → (bytes : List ℕ) → Typ
 BeginsAs known bytes = IfSome known (λ b. (rest : List ℕ) × (b ≡ bytes ++ rest))
 
 -- a text was followed to its end
-abbrev pub FollowsText : (known : Option (List ℕ)) → Followed → (old new : Option (List ℕ)) → Type 0
-FollowsText known f old new = (text : List ℕ) × IsKnownAs known text × FollowsAll f text old new
+abbrev pub FollowsText : (known : Option (List ℕ)) → Followed → (start : Reached) → (old new : Option (List ℕ)) → Type 0
+FollowsText known f start old new = (text : List ℕ) × IsKnownAs known text × FollowsAll f start text old new
 
 -- a beginning of it was
 abbrev pub FailsText : (known : Option (List ℕ)) → Followed → (old new : Option (List ℕ)) → RunFault → Type 0

@@ -2,11 +2,13 @@
 
 ghost use Rattle.std.specs.Prelude.{◌≡◌, ◌⊎◌, ◌++◌, [], IfErr, IfOk, List, ℕ, OnOk, Option};
 ghost use Rattle.collector.specs.Watching.{inner_of};
+ghost use Rattle.csv_cells.specs.Texts.{texts_of};
 ghost use Rattle.csv_epochs.specs.declared.epoch.Epoch as epoch;
 ghost use Rattle.table_epochs.specs.Followed.{FailsText, FollowsAll, FollowsPart, IsStart, Reached};
 ghost use Rattle.table_epochs.specs.Going.{BreaksIn, BreaksOff, HasHeader, HasTaken, HasWritten};
 ghost use Rattle.table_epochs.specs.Going.{IsGoing, Keeps, WritesEpoch, followed_by, reached_by};
 ghost use Rattle.table_commands.specs.Read.{IsKnownAs};
+ghost use Rattle.tables.specs.Inputs.{AreNumbered};
 
 use crate::epoch_answer::{Following, Lines, answer_epoch, files_fault, put_text};
 use collector::{Watched, put};
@@ -213,6 +215,7 @@ pub fn check_files<'a>(
     ensures paths { following.new.job ≡ following.old.job }
     ensures count { following.new.count ≡ following.old.count }
     ensures last { following.new.last ≡ following.old.last }
+    ensures numbered { OnOk result (AreNumbered following.old.job.schema.now.constants.items (texts_of following.old.dictionary) (texts_of following.new.dictionary)) }
 {
     let place = following.stream.place;
     put_text(&mut following.files, place, header);
@@ -243,7 +246,7 @@ pub fn follow_end<'a, W: Write>(
 ) -> Result<(), RunFault<'a>>
     ensures written { (start : Reached) (text : List ℕ) (before : Option (List ℕ)) → HasHeader following.old → IsStart start
         → HasTaken (followed_by following.old) start (reached_by following.old) text header.items before (W.contents (inner_of out.old))
-        → OnOk result (FollowsAll (followed_by following.old) text before (W.contents (inner_of out.new))) }
+        → OnOk result (FollowsAll (followed_by following.old) start text before (W.contents (inner_of out.new))) }
     ensures fault { (start : Reached) (text : List ℕ) (before : Option (List ℕ)) → HasHeader following.old → IsStart start
         → HasTaken (followed_by following.old) start (reached_by following.old) text header.items before (W.contents (inner_of out.old))
         → IfErr result (λ fault. FollowsPart (followed_by following.old) text fault before (W.contents (inner_of out.new))) }

@@ -1,6 +1,7 @@
 -- What `follow --schema` does.
 use Rattle.std.specs.Prelude.{◌≡◌, ◌⊎◌, ℕ, zero, suc, false, List, [], ◌∷◌, Option, Some, get_or, option_map, slice_get}
 use Rattle.std.specs.List.{list_any}
+use Rattle.table_commands.specs.Done.{BeginsWith}
 use Rattle.query_answers.specs.Runs.{Known}
 use Rattle.csv_cells.specs.Cells.{plain}
 use Rattle.csv_cells.specs.declared.column.Column.{Column}
@@ -8,13 +9,13 @@ use Rattle.schema.specs.declared.tables.Epochs.TheVariants.{By}
 use Rattle.schema.specs.declared.tables.Schema.{Schema}
 use Rattle.schema.specs.declared.tables.Table.{Table}
 use Rattle.table_commands.specs.Read.{IsOutput}
-use Rattle.table_epochs.specs.Followed.{FailsText, Followed, FollowsText}
+use Rattle.table_epochs.specs.Followed.{FailsText, Followed, FollowsText, Reached}
 use Rattle.table_files.specs.Read.{AreTexts, IsKnownAs}
 use Rattle.table_queries.specs.Begun.{IsBegun}
 use Rattle.table_queries.specs.declared.fault.RunFault.{RunFault}
 use Rattle.table_runs.specs.Runs.{Fails, WritesAnswer}
 use Rattle.schema_words.specs.declared.run_line.TableRun.{TableRun}
-use Rattle.tables.specs.Inputs.{has_own}
+use Rattle.tables.specs.Inputs.{AreNumbered, has_own}
 
 -- these are the texts of the files of these names, but for the one at that place
 unfoldable pub AreOthers : Known → (place : ℕ) → (names files : List (List ℕ)) → Type 0
@@ -38,10 +39,16 @@ pub record IsFollowed (known : Known) (schema : Schema) (table : Table) (paths :
   pub stream : IsStream schema.inputs.items f.place f.column f.cells
   pub files : AreOthers known f.place paths f.files
 
--- the file that arrives was followed to its end
-abbrev pub FollowsFile : Known → Schema → Table → (paths : List (List ℕ)) → (query : List ℕ) → (old new : Option (List ℕ)) → Type 0
-FollowsFile known schema table paths query old new =
-    (f : Followed) × IsFollowed known schema table paths query f × FollowsText (known (get_or paths f.place [])) f old new
+-- a text was followed to its end: by these texts of a dictionary, with those of the schema's constants added in this order, and then others
+abbrev pub FollowsFrom : (known : Option (List ℕ)) → Followed → (begin : List (List ℕ)) → (old new : Option (List ℕ)) → Type 0
+FollowsFrom known f begin old new = (start : Reached) × AreNumbered f.schema.constants.items begin start.texts × FollowsText known f start old new
+
+-- the file that arrives was followed to its end, by the texts of the dictionary that is named, or by none
+abbrev pub FollowsFile : Known → Schema → Table → (paths : List (List ℕ)) → (query : List ℕ) → (dictionary : Option (List ℕ))
+    → (old new : Option (List ℕ)) → Type 0
+FollowsFile known schema table paths query dictionary old new =
+    (begin : List (List ℕ)) × BeginsWith known dictionary begin
+    × (f : Followed) × IsFollowed known schema table paths query f × FollowsFrom (known (get_or paths f.place [])) f begin old new
 
 -- nothing was written, or a beginning of it was followed
 abbrev pub FailsFile : Known → Schema → Table → (paths : List (List ℕ)) → (query : List ℕ) → (old new : Option (List ℕ)) → RunFault → Type 0
@@ -60,7 +67,7 @@ pub record HasFollowed (known : Known) (asked : TableRun) (old new : Option (Lis
   pub query : List ℕ
   pub begun : IsBegun known asked schema paths query
   pub output : IsOutput schema.outputs.items (option_map (λ s. s.now) asked.output) table
-  pub written : FollowsFile known schema table paths query old new ⊎
+  pub written : FollowsFile known schema table paths query (option_map (λ s. s.now) asked.dictionary) old new ⊎
       (HasNoneIn schema.inputs.items × WritesAnswer known schema table paths query (option_map (λ s. s.now) asked.dictionary) old new)
 
 -- at a fault after the line's query was read

@@ -4,6 +4,7 @@ ghost use Rattle.std.specs.Prelude.{◌≡◌, ◌⊎◌, [], codes, get_or, map
 ghost use Rattle.collector.specs.Watching.{inner_of};
 ghost use Rattle.table_follows.specs.Followed.{HasFailed, HasFollowed};
 ghost use Rattle.table_queries.specs.declared.fault.RunFault as fault;
+ghost use Rattle.schema_words.specs.Line.{AsksRun};
 ghost use Rattle.schema_words.specs.declared.run_line.TableRun.{TableRun};
 
 use crate::files::follow_tables;
@@ -42,8 +43,8 @@ pub fn answer_table_follow<'a, A: Answering, S: Sources<'a>, D: Drafts, W: Write
     err: &mut E,
 ) -> u8
     requires { A.is_usable }
-    ensures written { result ≡ 0 → (asked : TableRun) × HasFollowed (S.content sources.now) asked (W.contents (inner_of out.old))
-        (W.contents (inner_of out.new)) }
+    ensures written { result ≡ 0 → (asked : TableRun) × AsksRun (map (λ s. s.now) words.entry.now) asked
+        × HasFollowed (S.content sources.now) asked (W.contents (inner_of out.old)) (W.contents (inner_of out.new)) }
     ensures fault { (result ≡ 0) ⊎ ((W.contents (inner_of out.new) ≡ W.contents (inner_of out.old)) ⊎
         ((asked : TableRun) × (fault : fault.RunFault) × HasFailed (S.content sources.now) asked fault (W.contents (inner_of out.old))
         (W.contents (inner_of out.new)))) }

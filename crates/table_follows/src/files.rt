@@ -1,12 +1,13 @@
 //! Follows a CSV file, by the files and the dictionary of a line.
 
-ghost use Rattle.std.specs.Prelude.{◌≡◌, ◌∷◌, [], IfErr, IfOk, OnOk, get_or, map};
+ghost use Rattle.std.specs.Prelude.{◌≡◌, ◌∷◌, [], IfErr, IfOk, None, OnOk, Some, get_or, map, option_map};
 ghost use Rattle.collector.specs.Watching.{inner_of};
+ghost use Rattle.csv_cells.specs.Texts.{texts_of};
 ghost use Rattle.tables.specs.Answers.{header_of};
 ghost use Rattle.tables.specs.Files.{csv_text};
-ghost use Rattle.table_epochs.specs.Followed.{FailsText, FollowsText, IsStart};
+ghost use Rattle.table_epochs.specs.Followed.{FailsText, IsStart};
 ghost use Rattle.table_epochs.specs.Going.{HasHeader, followed_by, reached_by};
-ghost use Rattle.table_follows.specs.Followed.{FailsFile, FailsSo, FollowsFile, HasFollowed, IsStream};
+ghost use Rattle.table_follows.specs.Followed.{FailsFile, FailsSo, FollowsFile, FollowsFrom, HasFollowed, IsStream};
 ghost use Rattle.table_follows.specs.Ready.{IsReady};
 
 use crate::stream::{other_texts, stream_of};
@@ -65,8 +66,8 @@ fn follow_file<'a, A: Answering, S: Sources<'a>, W: Write>(
 ) -> Result<(), RunFault<'a>>
     requires { A.is_usable }
     ensures written { HasHeader following.old → IsStart (reached_by following.old)
-        → OnOk result (FollowsText (S.content sources.now (get_or (map (λ s. s.now) following.old.job.paths.now) following.old.stream.place []))
-        (followed_by following.old) (W.contents (inner_of out.old)) (W.contents (inner_of out.new))) }
+        → OnOk result (FollowsFrom (S.content sources.now (get_or (map (λ s. s.now) following.old.job.paths.now) following.old.stream.place []))
+        (followed_by following.old) (texts_of following.old.dictionary) (W.contents (inner_of out.old)) (W.contents (inner_of out.new))) }
     ensures fault { HasHeader following.old → IsStart (reached_by following.old)
         → IfErr result (FailsText (S.content sources.now (get_or (map (λ s. s.now) following.old.job.paths.now) following.old.stream.place []))
         (followed_by following.old) (W.contents (inner_of out.old)) (W.contents (inner_of out.new))) }
@@ -96,7 +97,7 @@ fn begin_following<'p, 'a, S: Sources<'a>>(
 ) -> Result<Following<'p, 'a>, RunFault<'a>>
     ensures { IsStream streamed.entry.job.schema.now.inputs.items streamed.entry.stream.place streamed.entry.stream.column
         streamed.entry.stream.cells → IfOk result (IsReady (S.content sources.now) streamed.entry.job.schema.now streamed.entry.job.table.now
-        (map (λ s. s.now) streamed.entry.job.paths.now) streamed.entry.job.query.now) }
+        (map (λ s. s.now) streamed.entry.job.paths.now) streamed.entry.job.query.now (texts_of dictionary)) }
 {
     let Streamed { job, stream } = streamed;
     Ok(Following {
@@ -123,7 +124,7 @@ fn follow_without<'a, A: Answering, S: Sources<'a>, W: Write>(
     ensures written { IsStream streamed.entry.job.schema.now.inputs.items streamed.entry.stream.place streamed.entry.stream.column
         streamed.entry.stream.cells
         → OnOk result (FollowsFile (S.content sources.now) streamed.entry.job.schema.now streamed.entry.job.table.now
-        (map (λ s. s.now) streamed.entry.job.paths.now) streamed.entry.job.query.now (W.contents (inner_of out.old))
+        (map (λ s. s.now) streamed.entry.job.paths.now) streamed.entry.job.query.now None (W.contents (inner_of out.old))
         (W.contents (inner_of out.new))) }
     ensures fault { IsStream streamed.entry.job.schema.now.inputs.items streamed.entry.stream.place streamed.entry.stream.column
         streamed.entry.stream.cells
@@ -161,8 +162,8 @@ fn follow_counted<'a, A: Answering, S: Sources<'a>, W: Write>(
 ) -> Result<Option<Vec<u8>>, RunFault<'a>>
     requires { A.is_usable }
     ensures written { HasHeader following.old → IsStart (reached_by following.old)
-        → OnOk result (FollowsText (S.content sources.now (get_or (map (λ s. s.now) following.old.job.paths.now) following.old.stream.place []))
-        (followed_by following.old) (W.contents (inner_of out.old)) (W.contents (inner_of out.new))) }
+        → OnOk result (FollowsFrom (S.content sources.now (get_or (map (λ s. s.now) following.old.job.paths.now) following.old.stream.place []))
+        (followed_by following.old) (texts_of following.old.dictionary) (W.contents (inner_of out.old)) (W.contents (inner_of out.new))) }
     ensures fault { HasHeader following.old → IsStart (reached_by following.old)
         → IfErr result (FailsText (S.content sources.now (get_or (map (λ s. s.now) following.old.job.paths.now) following.old.stream.place []))
         (followed_by following.old) (W.contents (inner_of out.old)) (W.contents (inner_of out.new))) }
@@ -186,7 +187,7 @@ fn follow_with<'a, A: Answering, S: Sources<'a>, W: Write>(
     ensures written { IsStream streamed.entry.job.schema.now.inputs.items streamed.entry.stream.place streamed.entry.stream.column
         streamed.entry.stream.cells
         → OnOk result (FollowsFile (S.content sources.now) streamed.entry.job.schema.now streamed.entry.job.table.now
-        (map (λ s. s.now) streamed.entry.job.paths.now) streamed.entry.job.query.now (W.contents (inner_of out.old))
+        (map (λ s. s.now) streamed.entry.job.paths.now) streamed.entry.job.query.now (Some name.now) (W.contents (inner_of out.old))
         (W.contents (inner_of out.new))) }
     ensures fault { IsStream streamed.entry.job.schema.now.inputs.items streamed.entry.stream.place streamed.entry.stream.column
         streamed.entry.stream.cells
@@ -222,7 +223,7 @@ fn follow_streamed<'a, A: Answering, S: Sources<'a>, D: Drafts, W: Write>(
     ensures written { IsStream streamed.entry.job.schema.now.inputs.items streamed.entry.stream.place streamed.entry.stream.column
         streamed.entry.stream.cells
         → OnOk result (FollowsFile (S.content sources.now) streamed.entry.job.schema.now streamed.entry.job.table.now
-        (map (λ s. s.now) streamed.entry.job.paths.now) streamed.entry.job.query.now (W.contents (inner_of out.old))
+        (map (λ s. s.now) streamed.entry.job.paths.now) streamed.entry.job.query.now (option_map (λ s. s.now) streamed.entry.job.dictionary) (W.contents (inner_of out.old))
         (W.contents (inner_of out.new))) }
     ensures fault { IsStream streamed.entry.job.schema.now.inputs.items streamed.entry.stream.place streamed.entry.stream.column
         streamed.entry.stream.cells

@@ -3,6 +3,7 @@
 ghost use Rattle.std.specs.Prelude.{◌≡◌, ◌<◌, ◌⊎◌, true, codes, get_or, [], map};
 ghost use Rattle.collector.specs.Watching.{inner_of};
 ghost use Rattle.table_runs.specs.Runs.{IsDone};
+ghost use Rattle.schema_words.specs.Line.{AsksRun};
 ghost use Rattle.schema_words.specs.declared.run_line.TableRun.{TableRun};
 
 use crate::running::run_tables;
@@ -99,7 +100,8 @@ pub fn answer_table_run<'a, A: Answering, S: Sources<'a>, D: Drafts, W: Write, E
     err: &mut E,
 ) -> u8
     requires { A.is_usable }
-    ensures written { result ≡ 0 → (asked : TableRun) × IsDone (S.content sources.now) asked (W.contents (inner_of out.old)) (W.contents (inner_of out.new)) }
+    ensures written { result ≡ 0 → (asked : TableRun) × AsksRun (map (λ s. s.now) words.entry.now) asked
+        × IsDone (S.content sources.now) asked (W.contents (inner_of out.old)) (W.contents (inner_of out.new)) }
     ensures quiet { ((result ≡ 0) ⊎ (result ≡ 6)) ⊎ (W.contents (inner_of out.new) ≡ W.contents (inner_of out.old)) }
 {
     let asked = match read_run_words(alloc, words) {

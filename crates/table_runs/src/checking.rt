@@ -3,6 +3,7 @@
 ghost use Rattle.std.specs.Prelude.{◌≡◌, ◌⊎◌, true, IfErr, OnOk, codes, get_or, [], map};
 ghost use Rattle.collector.specs.Watching.{inner_of};
 ghost use Rattle.table_runs.specs.Runs.{Fails, WritesFields};
+ghost use Rattle.schema_words.specs.Line.{AsksCheck};
 ghost use Rattle.schema_words.specs.declared.check_line.TableCheck.{TableCheck};
 
 use crate::answering::report_run;
@@ -54,7 +55,8 @@ pub fn answer_table_check<'a, S: Sources<'a>, W: Write, E: Write>(
     out: &mut Watched<W>,
     err: &mut E,
 ) -> u8
-    ensures written { result ≡ 0 → (asked : TableCheck) × WritesFields (S.content sources.now) asked (W.contents (inner_of out.old)) (W.contents (inner_of out.new)) }
+    ensures written { result ≡ 0 → (asked : TableCheck) × AsksCheck (map (λ s. s.now) words.entry.now) asked
+        × WritesFields (S.content sources.now) asked (W.contents (inner_of out.old)) (W.contents (inner_of out.new)) }
     ensures quiet { ((result ≡ 0) ⊎ (result ≡ 6)) ⊎ (W.contents (inner_of out.new) ≡ W.contents (inner_of out.old)) }
 {
     let asked = match read_check_words(alloc, words) {

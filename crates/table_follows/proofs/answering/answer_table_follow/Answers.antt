@@ -1,5 +1,6 @@
-use Rattle.std.proofs.Common.{arith, ◌≡◌, ℕ, List, Option, inl, inr}
+use Rattle.std.proofs.Common.{arith, ◌≡◌, ℕ, IfSome, List, Option, inl, inr, map, subst}
 use Rattle.std.specs.Prelude.{◌⊎◌}
+use Rattle.schema_words.specs.Line.{AsksRun}
 use Rattle.collector.specs.Watching.{inner_of}
 use Rattle.query_answers.specs.Runs.{Known}
 use Rattle.table_queries.specs.declared.fault.RunFault.{RunFault}
@@ -29,3 +30,10 @@ returns-in-Err-Tables-clause-written g c = λ zero. absurd (omega (arith, zero, 
 
 pub returns-clause-written : goal.returns-clause-written
 returns-clause-written g c = λ zero. absurd (omega (arith, zero, c.report_run.ensures))
+
+pub returns-in-Ok-clause-written : goal.returns-in-Ok-clause-written
+returns-in-Ok-clause-written g c = λ zero. (
+  c.in-Ok-Some.asked,
+  subst (λ o. IfSome o (AsksRun (map (λ s. s.now) c.args.words.now))) c.in-Ok-Some.field-0-is c.in-Ok-Some.ensures,
+  c.in-Ok.ensures.written,
+)

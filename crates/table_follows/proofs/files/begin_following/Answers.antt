@@ -14,5 +14,6 @@ returns g c = λ stream. record {
   };
   same_paths = refl;
   start = record { count = refl; last = refl };
+  same_texts = refl;
   header = c.in_ok-header_row.ensures;
 }

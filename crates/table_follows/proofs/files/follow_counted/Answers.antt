@@ -1,5 +1,6 @@
 use Rattle.std.proofs.Common.{[], get_or, map}
 use Rattle.collector.specs.Watching.{inner_of}
+use Rattle.csv_cells.specs.Texts.{texts_of}
 use Rattle.table_epochs.specs.Followed.{FailsText}
 use Rattle.table_epochs.specs.Going.{followed_by}
 use Rattle.table_epochs.proofs.Results.{err-any, from-err, on-any}
@@ -25,4 +26,4 @@ returns-clause-fault g c = λ header start.
     let old = g.W.Write.contents (inner_of c.args.out.now) in
     let new = g.W.Write.contents (inner_of c.follow_file.new.out) in
     err-any (FailsText known (followed_by fl) old new) c.grown_after.result
-    (λ fault. text-failed known (followed_by fl) old new fault (c.in_ok-follow_file.ensures.written header start))
+    (λ fault. text-failed known (followed_by fl) (texts_of fl.dictionary) old new fault (c.in_ok-follow_file.ensures.written header start))

@@ -1,11 +1,13 @@
 use Rattle.std.proofs.Common.{◌≡◌, ◌∙◌, [], ℕ, List, Option, ap, get_or, map, subst, sym}
 use Rattle.collector.specs.Watching.{inner_of}
+use Rattle.csv_cells.specs.Texts.{texts_of}
 use Rattle.table_commands.specs.Read.{IsKnownAs}
-use Rattle.table_epochs.specs.Followed.{FailsText, Followed, FollowsAll, FollowsPart, FollowsText, IsStart}
+use Rattle.table_epochs.specs.Followed.{FailsText, Followed, FollowsAll, FollowsPart, IsStart}
 use Rattle.table_epochs.specs.Going.{HasTaken, followed_by, reached_by}
 use Rattle.table_epochs.proofs.Going.{begins-none, known-begins, none-part}
 use Rattle.table_epochs.proofs.Kept.{header-kept}
 use Rattle.table_epochs.proofs.Results.{from-err, if-err, on-ok}
+use Rattle.table_follows.specs.Followed.{FollowsFrom}
 use Rattle.table_follows.proofs.files.follow_file.Goals as goal
 
 pub returns-in_err-header-clause-fault : goal.returns-in_err-header-clause-fault
@@ -44,12 +46,11 @@ returns-clause-written g c = λ header start.
     c.path_at-path.ensures ∙ ap (λ j. get_or (map (λ s. s.now) j.paths.now) old.stream.place []) one.paths in
     let known = subst (λ (k : Option (List ℕ)). IsKnownAs k bytes) (c.open_named-opened.ensures.content ∙ ap content path) read in
     let h : List ℕ = c.in_ok-header-2.header.items in
-    on-ok {Q = FollowsText (content (get_or (map (λ s. s.now) old.job.paths.now) old.stream.place [])) (followed_by old) before next}
+    on-ok {Q = FollowsFrom (content (get_or (map (λ s. s.now) old.job.paths.now) old.stream.place [])) (followed_by old) (texts_of old.dictionary) before next}
     c.follow_end.result (λ w. (
-      bytes,
-      known,
-      subst (λ (f : Followed). FollowsAll f bytes before next)
-          (two.keeps.followed ∙ one.keeps.followed) w,
+      reached_by checked,
+      one.numbered,
+      (bytes, known, subst (λ (f : Followed). FollowsAll f (reached_by checked) bytes before next) (two.keeps.followed ∙ one.keeps.followed) w),
     ))
     (c.follow_end.ensures.written (reached_by checked) bytes before (header-kept checked done two.keeps kept) here
     (subst (λ (f : Followed). HasTaken f (reached_by checked) (reached_by done) bytes h before out) (sym two.keeps.followed) taken))

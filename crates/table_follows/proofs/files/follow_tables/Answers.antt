@@ -10,6 +10,7 @@ use Rattle.table_follows.proofs.files.follow_tables.Goals as goal
 pub returns-in-Some-clause-written : goal.returns-in-Some-clause-written
 returns-in-Some-clause-written g c =
     let known = g.S.Sources.content c.args.sources.now in
+    let dictionary = option_map (λ s. s.now) c.args.asked.now.dictionary in
     let old = g.W.Write.contents (inner_of c.args.out.now) in
     let new = g.W.Write.contents (inner_of c.follow_streamed.new.out) in
     let begun = c.in_ok-begun.begun in
@@ -25,8 +26,8 @@ returns-in-Some-clause-written g c =
       query = begun.query.items;
       begun = c.in_ok-begun.ensures;
       output = c.in_ok-asked_output.ensures;
-      written = inl (subst (λ q. FollowsFile known schema table names q old new) c.as_slice-2.ensures.value
-          (subst (λ ps. FollowsFile known schema table (map (λ s. s.now) ps) c.as_slice-2.result.now old new) c.as_slice.ensures.value w));
+      written = inl (subst (λ q. FollowsFile known schema table names q dictionary old new) c.as_slice-2.ensures.value
+          (subst (λ ps. FollowsFile known schema table (map (λ s. s.now) ps) c.as_slice-2.result.now dictionary old new) c.as_slice.ensures.value w));
     }) (c.follow_streamed.ensures.written stream)
 
 pub returns-in-Some-clause-fault : goal.returns-in-Some-clause-fault

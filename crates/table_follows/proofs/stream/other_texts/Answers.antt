@@ -1,4 +1,4 @@
-use Rattle.std.proofs.Common.{◌≡◌, ◌≢◌, ◌++◌, ◌∷◌, ◌+◌, ◌<◌, ◌∙◌, [], ℕ, List, Option, get_or, length, map, take, sym, subst, arith, Bor, Vec}
+use Rattle.std.proofs.Common.{◌≡◌, ◌≢◌, ◌++◌, ◌∷◌, ◌<◌, ◌∙◌, [], ℕ, List, Option, get_or, length, map, take, sym, subst, arith, Bor, Vec}
 use Rattle.std.specs.Global.{Global}
 use Rattle.std.proofs.lemmas.List.{get_or-map, length-map, length-take-le, map-append, take_more}
 use Rattle.table_commands.specs.Read.{IsKnownAs}
