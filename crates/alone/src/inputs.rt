@@ -32,6 +32,7 @@ fn no_memory(refusal: StepRefusal) -> NoMemory
 }
 
 /// Feeds a batch to an input.
+#[inline(always)]
 pub fn feed<V: Views>(
     alloc: Global,
     board: &mut Board<V>,
@@ -77,6 +78,7 @@ pub fn feed_all<V: Views>(
 }
 
 /// Seals an input.
+#[inline(always)]
 fn seal<V: Views>(board: &mut Board<V>, input: u32) -> Result<(), NoMemory>
     requires ready { IsReady board.old.shown }
     requires there { input < length board.old.shown.inputs }

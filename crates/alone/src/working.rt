@@ -26,6 +26,7 @@ pub enum Worked {
 }
 
 /// Claims and processes one event of the worker.
+#[inline(always)]
 fn work_once<V: Views, G: Gate>(
     alloc: Global,
     board: &mut Board<V>,

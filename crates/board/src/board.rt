@@ -167,6 +167,7 @@ impl<V: Views> Board<V> {
     }
 
     /// Feeds a batch that was already cut for this board; computes nothing. The caller must drop what is left of the batch after releasing its lock.
+    #[inline(always)]
     pub fn feed_cut(&mut self, cut: CutBatch) -> (Result<(), StepRefusal>, Option<CutBatch>)
         requires { cut.wired ≡ record { graph = self.old.shown.graph; workers = length self.old.shown.sides } }
         ensures step { OnOk result.0 (Goes self.old.shown (Step.feed cut.input cut.batch) self.new.shown) }
@@ -196,6 +197,7 @@ impl<V: Views> Board<V> {
     }
 
     /// The reason why feeding this batch would be refused, apart from lack of memory; `None` if there is none.
+    #[inline(always)]
     pub fn feed_refusal(&self, input: u32, batch: &Batch) -> Option<StepRefusal>
         ensures { result ≡ feed_refusal self.now.shown input batch.now }
     {
@@ -209,6 +211,7 @@ impl<V: Views> Board<V> {
     }
 
     /// Ends the open epoch of an input; the next one opens.
+    #[inline(always)]
     pub fn seal(&mut self, input: u32) -> Result<(), StepRefusal>
         ensures step { OnOk result (Goes self.old.shown (Step.seal input) self.new.shown) }
         ensures refused { OnErr result (self.new ≡ self.old) }
@@ -301,6 +304,7 @@ impl<V: Views> Board<V> {
 
     /// Hands out an event to the worker, if it has one. If no message waits for it, or many batches of changes do, those batches are applied first.
     /// Takes no memory.
+    #[inline(always)]
     pub fn claim(&mut self, worker: u32) -> Claimed
         ensures claims { Claims self.old.shown self.new.shown worker result }
         ensures tables { tables self.new.shown ≡ tables self.old.shown }
@@ -327,6 +331,7 @@ impl<V: Views> Board<V> {
 
     /// Hands out a notification of a free worker that comes before its next message, if the worker sees that it may be delivered. So the turns of a
     /// loop go on together: what is handed round doesn't run ahead of what waits for a notification.
+    #[inline(always)]
     fn claim_due(&mut self, worker: u32) -> Option<Work>
         requires there { worker < length self.old.shown.sides }
         requires free { (side_at self.old.shown worker).place ≡ Home }
@@ -349,6 +354,7 @@ impl<V: Views> Board<V> {
     }
 
     /// Hands out a message of a free worker, if one waits.
+    #[inline(always)]
     fn claim_mail(&mut self, worker: u32) -> Option<Work>
         requires there { worker < length self.old.shown.sides }
         requires free { (side_at self.old.shown worker).place ≡ Home }
@@ -369,6 +375,7 @@ impl<V: Views> Board<V> {
     }
 
     /// Lets go of what the shard of a message's vertex keeps of an earlier time, if the worker sees that it has passed there.
+    #[inline(always)]
     fn forget(&mut self, worker: u32, place: usize)
         requires there { worker < length self.old.shown.sides }
         requires free { (side_at self.old.shown worker).place ≡ Home }
@@ -385,6 +392,7 @@ impl<V: Views> Board<V> {
     }
 
     /// Hands out the first notification that may be delivered to a free worker that has no message and an up-to-date view.
+    #[inline(always)]
     fn claim_rest(&mut self, worker: u32) -> Claimed
         requires there { worker < length self.old.shown.sides }
         requires free { (side_at self.old.shown worker).place ≡ Home }
@@ -427,6 +435,7 @@ impl<V: Views> Board<V> {
     }
 
     /// The same only if many batches wait for the worker, so that no view lags without bound.
+    #[inline(always)]
     fn refresh(&mut self, worker: u32)
         ensures shown { self.new.shown ≡ self.old.shown }
         ensures applies { Applies worker self.old self.new }
@@ -500,12 +509,14 @@ impl<V: Views> Board<V> {
     }
 
     /// Whether the message at that place behind the worker's first one is like it, and both are small. It decides only how many events there are.
+    #[inline(always)]
     pub fn is_worth_merging(&self, worker: u32, place: usize) -> bool {
         worker < self.state.worker_count() && self.state.is_worth_merging(worker as usize, place)
     }
 
     /// The first place, from `from` on and within a fixed window, of a message that can be merged with the worker's first: on the same edge at the
     /// same time, and with few enough records. `None` if there is no such message or worker.
+    #[inline(always)]
     pub fn next_alike(&self, worker: u32, from: usize) -> Option<usize>
         ensures found { IfSome result (λ at. (from ≤ at) × AreAlike (side_at self.now.shown worker).mail at) }
         ensures none { IfNone result ((at : ℕ) → from ≤ at → at < window → AreAlike (side_at self.now.shown worker).mail at → ⊥) }
@@ -621,6 +632,7 @@ impl<V: Views> Board<V> {
     }
 
     /// Ends an event that the board handed out, and gives what it sends. A stopped board accepts it too.
+    #[inline(always)]
     pub fn commit(&mut self, done: Done) -> Result<Sent, CommitRefusal>
         requires { IsOf self.old.shown done }
         ensures commits { Commits self.old.shown self.new.shown done result }
@@ -644,6 +656,7 @@ impl<V: Views> Board<V> {
     }
 
     /// The reason why any call on that input would be refused; `None` if there is none.
+    #[inline(always)]
     pub fn input_refusal(&self, input: u32) -> Option<StepRefusal>
         ensures { result ≡ input_refusal self.now.shown input }
     {

@@ -19,6 +19,7 @@ use tokens::tie::Stub;
 use views::Views;
 
 /// Reserves room in the mailboxes for these letters.
+#[inline(always)]
 pub fn reserve_letters(workers: &mut Vec<Worker>, letters: &[Letter]) -> Result<(), NoMemory>
     requires { AreWithin (length workers.old.items) letters.now }
     ensures sides { sides_of workers.new.items ≡ sides_of workers.old.items }
@@ -33,6 +34,7 @@ pub fn reserve_letters(workers: &mut Vec<Worker>, letters: &[Letter]) -> Result<
 }
 
 /// Puts the letters into their mailboxes. Takes no memory.
+#[inline(always)]
 pub fn deliver(workers: &mut Vec<Worker>, letters: Vec<Letter>)
     requires within { AreWithin (length workers.old.items) letters.items }
     requires room { HasRoom workers.old.items letters.items }
@@ -44,6 +46,7 @@ pub fn deliver(workers: &mut Vec<Worker>, letters: Vec<Letter>)
 }
 
 /// Puts a letter into its mailbox. Takes no memory.
+#[inline(always)]
 fn put_letter(workers: &mut Vec<Worker>, letter: Letter)
     requires within { letter.to < length workers.old.items }
     requires room { 0 < (worker_in workers.old.items letter.to).mail_room }
@@ -56,6 +59,7 @@ fn put_letter(workers: &mut Vec<Worker>, letter: Letter)
 }
 
 /// Appends the pointstamps of the letters. Takes no memory.
+#[inline(always)]
 pub fn note_letters(added: &mut Vec<Pointstamp>, letters: &[Letter])
     requires room { length added.old.items + length letters.now ≤ vec_capacity added.old }
     ensures added { (q : Active) → times_in added.new.items q ≡ letters_count q letters.now + times_in added.old.items q }
@@ -72,6 +76,7 @@ pub fn note_letters(added: &mut Vec<Pointstamp>, letters: &[Letter])
 }
 
 /// Appends the pointstamp of the request, if there is one. Takes no memory.
+#[inline(always)]
 fn note_request(added: &mut Vec<Pointstamp>, asked: &Option<Request>)
     requires room { length added.old.items < vec_capacity added.old }
     ensures added { (q : Active) → times_in added.new.items q ≡ requests_count q (requests_of asked.now) + times_in added.old.items q }
@@ -88,6 +93,7 @@ fn note_request(added: &mut Vec<Pointstamp>, asked: &Option<Request>)
 
 /// Reserves room in the views for a step that adds `count` pointstamps and removes at most one, and for the closes of `closing` inputs. The list
 /// `added` is then empty, with room for `count`. If refused, everything that is active or waits is unchanged.
+#[inline(always)]
 pub fn prepare_views<V: Views>(
     views: &mut V,
     added: &mut Vec<Pointstamp>,
@@ -117,6 +123,7 @@ pub fn prepare_views<V: Views>(
 }
 
 /// Reserves room for the letters and for a request of the worker. If refused, the workers show the same as before.
+#[inline(always)]
 pub fn prepare(
     workers: &mut Vec<Worker>,
     worker: usize,
@@ -139,6 +146,7 @@ pub fn prepare(
 
 /// Ends an event for which room was reserved: takes its shard back, delivers what it sends, and stores the request that it makes. Notes what becomes
 /// active, and gives back the event's pointstamp. Takes no memory.
+#[inline(always)]
 pub fn finish(
     workers: &mut Vec<Worker>,
     added: &mut Vec<Pointstamp>,

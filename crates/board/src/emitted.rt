@@ -39,6 +39,7 @@ impl Emitted {
     }
 
     /// The batches of a vertex for an epoch, perhaps none.
+    #[inline(always)]
     pub fn at(&self, vertex: usize, epoch: u32) -> &[Batch]
         ensures { result.now ≡ slice_index_or (emitted_by self.now vertex) epoch [] }
     {
@@ -49,6 +50,7 @@ impl Emitted {
     }
 
     /// Adds a batch of a vertex to an epoch, if there is a batch. If memory runs out, nothing changes, and the batch comes back.
+    #[inline(always)]
     pub fn add_some(
         &mut self,
         vertex: usize,

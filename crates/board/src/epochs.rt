@@ -18,6 +18,7 @@ enum Listed {
 }
 
 /// The same with a batch more at the end. If memory is short, both come back.
+#[inline(always)]
 fn longer(alloc: Global, listed: Listed, batch: Batch) -> Result<Listed, (Listed, Batch)>
     ensures ok { IfOk result (λ l. batches_in l ≡ batches_in listed ++ batch ∷ []) }
     ensures same { IfErr result (λ back. batches_in back.0 ≡ batches_in listed) }
@@ -88,6 +89,7 @@ impl Batches {
     }
 
     /// Appends a batch, or gives it back if memory is short.
+    #[inline(always)]
     pub fn push(&mut self, alloc: Global, batch: Batch) -> Result<(), Batch>
         ensures ok { OnOk result (self.new ≡ self.old ++ batch ∷ []) }
         ensures err { OnErr result (self.new ≡ self.old) }
@@ -144,6 +146,7 @@ impl Epochs {
     }
 
     /// Adds a batch to an epoch, and makes the epoch's entry if it has none. If memory runs out, nothing changes, and the batch comes back.
+    #[inline(always)]
     pub fn add(&mut self, epoch: u32, batch: Batch) -> Result<(), Batch>
         ensures ok { OnOk result (self.new ≡ more_at epoch (batch ∷ []) self.old) }
         ensures err { OnErr result (self.new ≡ self.old) }

@@ -41,6 +41,7 @@ pub fn first_seen<V: Views>(views: &V, worker: u32, requests: &Mailbox<Request>)
 }
 
 /// As `first_seen`, for a worker whose view is up to date: the first request that may be delivered.
+#[inline(always)]
 pub fn first_deliverable<V: Views>(
     views: &V,
     worker: u32,
@@ -58,6 +59,7 @@ pub fn first_deliverable<V: Views>(
 }
 
 /// Whether the worker's view lets a request through.
+#[inline(always)]
 pub fn may_deliver<V: Views>(views: &V, worker: u32, request: &Request) -> bool
     requires worker { worker < V.workers views.now }
     requires known { IsTimeAt (V.graph views.now) (Where.vertex request.now.vertex) request.now.time }
@@ -72,6 +74,7 @@ pub fn may_deliver<V: Views>(views: &V, worker: u32, request: &Request) -> bool
 }
 
 /// Whether one of these places has a request of the same vertex at the same time or an earlier one.
+#[inline(always)]
 fn is_behind(requests: &Mailbox<Request>, places: &[usize], request: &Request) -> bool
     requires { EachIndex places.now (λ i. slice_index places.now i < length requests.now.messages) }
     ensures { IsTrue result → (i : ℕ) × (i < length places.now) × StandsBefore requests.now.messages request.now (slice_index places.now i) }

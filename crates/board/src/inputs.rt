@@ -36,18 +36,21 @@ impl Input {
         }
     }
 
+    #[inline(always)]
     pub fn open_epoch(&self) -> u32
         ensures { result ≡ self.now.open_epoch }
     {
         self.open_epoch
     }
 
+    #[inline(always)]
     pub fn is_closed(&self) -> bool
         ensures { result ≡ self.now.closed }
     {
         self.closed
     }
 
+    #[inline(always)]
     pub fn fed(&self) -> &Epochs
         ensures { result.now ≡ self.now.fed }
     {
@@ -55,6 +58,7 @@ impl Input {
     }
 
     /// Takes a batch at the open epoch. If memory runs out, nothing changes, and the batch comes back.
+    #[inline(always)]
     pub fn feed(&mut self, batch: Batch) -> Result<(), Batch>
         ensures ok { OnOk result (self.new ≡ record self.old { fed = more_at self.old.open_epoch (batch ∷ []) self.old.fed }) }
         ensures err { OnErr result (self.new ≡ self.old) }
@@ -63,6 +67,7 @@ impl Input {
     }
 
     /// Ends the open epoch, and opens the next.
+    #[inline(always)]
     pub fn seal(&mut self)
         requires { self.old.open_epoch < 4294967295 }
         ensures { self.new ≡ record self.old { open_epoch = self.old.open_epoch + 1 } }

@@ -11,6 +11,7 @@ use std::cmp::Ordering;
 /// The place of the message to take next: the earliest of the first ones, so that what is sent in pieces is together before it is taken. If others
 /// are like it, it is left for when it is the first, since messages are merged into the first one only; the first is taken then. Any choice is right:
 /// the order decides only how many events there are.
+#[inline(always)]
 pub fn next_place(edges: &[Edge], mailbox: &Mailbox<Message>) -> usize
     requires { 0 < length mailbox.now.messages }
     ensures { result < length mailbox.now.messages }
@@ -51,6 +52,7 @@ fn earliest(edges: &[Edge], mailbox: &Mailbox<Message>) -> usize
 }
 
 /// The place of the first request, of those that have waited longest, at an earlier turn of a message's loop, or at an earlier epoch outside loops.
+#[inline(always)]
 pub fn due_before(message: &Message, requests: &Mailbox<Request>) -> Option<usize>
     ensures { IfSome result (λ at. at < length requests.now.messages) }
 {

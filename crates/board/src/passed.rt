@@ -16,6 +16,7 @@ use views::Views;
 
 /// The number of epochs that have passed at every output as the first worker sees it; each below `from` already has. Asks once for each epoch that
 /// has passed since.
+#[inline(always)]
 pub fn passed_now<V: Views>(views: &V, state: &State, from: u32) -> u32
     requires kept { IsKept (V.graph views.now) (V.content views.now) state.now }
     requires viewers { V.workers views.now ≡ length state.now.sides }
@@ -31,6 +32,7 @@ pub fn passed_now<V: Views>(views: &V, state: &State, from: u32) -> u32
 
 /// The first epoch from `from` on, and at most `sealed`, that hasn't passed at some output as the first worker sees it. Asks once for each epoch that
 /// has passed since.
+#[inline(always)]
 fn passed_from<V: Views>(views: &V, state: &State, from: u32, sealed: u32) -> u32
     requires order { from ≤ sealed }
     requires some { 0 < V.workers views.now }
@@ -52,6 +54,7 @@ fn passed_from<V: Views>(views: &V, state: &State, from: u32, sealed: u32) -> u3
 }
 
 /// Whether the first worker sees that no record could still come to any output for an epoch.
+#[inline(always)]
 pub fn is_over<V: Views>(views: &V, state: &State, epoch: u32) -> bool
     requires some { 0 < V.workers views.now }
     requires outputs { AreOutputsIn (V.graph views.now) state.now }
@@ -81,6 +84,7 @@ pub fn is_past<V: Views>(views: &V, state: &State, output: u32, epoch: u32) -> b
 }
 
 /// The pointstamp at which the records of an epoch come to an output.
+#[inline(always)]
 pub fn output_place(output: VertexId, epoch: u32) -> Pointstamp
     ensures { result ≡ at_vertex output.0 (at_epoch epoch) }
 {

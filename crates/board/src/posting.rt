@@ -12,6 +12,7 @@ use path_summary::Pointstamp;
 use views::Views;
 
 /// Posts one step's changes as one batch, if there are any.
+#[inline(always)]
 pub fn post<V: Views>(views: &mut V, sender: u32, added: &[Pointstamp], removed: &[Pointstamp])
     requires sender { sender ≤ V.workers views.old }
     requires room { length added.now + length removed.now ≤ V.room views.old }
@@ -34,6 +35,7 @@ pub fn post<V: Views>(views: &mut V, sender: u32, added: &[Pointstamp], removed:
 }
 
 /// As `post`, for pointstamps that were noted.
+#[inline(always)]
 pub fn post_noted<V: Views>(
     views: &mut V,
     sender: u32,

@@ -30,6 +30,7 @@ pub struct Sent {
 
 impl Sent {
     /// What these letters are. They are of a batch, of which no worker, vertex or received records are told: these are 0.
+    #[inline(always)]
     pub fn of(letters: &[Letter]) -> Sent
         ensures { result.records ≡ counted (total (λ letter. length letter.message.records) letters.now) }
     {
@@ -50,6 +51,7 @@ impl Sent {
     }
 
     /// The same of a worker's event at a vertex, with which so many records came.
+    #[inline(always)]
     pub(crate) fn of_event(self, worker: u32, vertex: usize, received: u64) -> Sent
         ensures { result ≡ record self { worker = worker; vertex = vertex; received = received } }
     {
@@ -109,6 +111,7 @@ impl Sent {
         self.received
     }
 
+    #[inline(always)]
     fn add(&mut self, letter: &Letter)
         ensures { self.new.records ≡ counted (self.old.records + length letter.now.message.records) }
     {

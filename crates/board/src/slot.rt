@@ -45,6 +45,7 @@ impl Slot {
     }
 
     /// Takes the shard out.
+    #[inline(always)]
     pub fn take(&mut self) -> Box<Shard>
         requires { (x : shard.Shard) × (self.old ≡ Some x) }
         ensures shard { self.old ≡ Some result.value }
@@ -54,6 +55,7 @@ impl Slot {
     }
 
     /// A time of which the shard keeps something that it may let go, and that may have passed when something comes at `now`.
+    #[inline(always)]
     pub fn earlier(&self, now: &Time) -> Option<Time>
         ensures { OnSome result (LooksHere self.now) }
     {
@@ -64,6 +66,7 @@ impl Slot {
     }
 
     /// Lets the shard go of what it keeps of a time.
+    #[inline(always)]
     pub fn forget(&mut self, time: &Time)
         requires { (x : shard.Shard) × (self.old ≡ Some x) }
         ensures { LetsGoAt time.now self.old self.new }
@@ -75,6 +78,7 @@ impl Slot {
     }
 
     /// Puts the shard back.
+    #[inline(always)]
     pub fn put(&mut self, shard: Box<Shard>)
         ensures { self.new ≡ Some shard.value }
     {

@@ -146,6 +146,7 @@ impl State {
     }
 
     /// The vertex of an output, by its place.
+    #[inline(always)]
     pub fn output(&self, place: usize) -> VertexId
         requires { IsOutputPlace self.now place }
         ensures { result.0 ≡ output_number (shown_graph self.now.graph) place }
@@ -154,6 +155,7 @@ impl State {
     }
 
     /// The greatest number of seals of any input.
+    #[inline(always)]
     pub fn seals(&self) -> u32
         ensures { IsMostSeals self.now result }
     {
@@ -229,6 +231,7 @@ impl State {
     }
 
     /// Whether no event of the worker is out or abandoned.
+    #[inline(always)]
     pub fn is_free(&self, worker: usize) -> bool
         requires { worker < length self.now.sides }
         ensures { MatchBool result ((side_at self.now worker).place ≡ Home) ((side_at self.now worker).place ≢ Home) }
@@ -306,6 +309,7 @@ impl State {
     }
 
     /// The place of the message that the worker takes next; `None` if none waits.
+    #[inline(always)]
     pub fn next_message(&self, worker: usize) -> Option<usize>
         requires { worker < length self.now.sides }
         ensures there { IfSome result (λ at. at < length (side_at self.now worker).mail) }
@@ -338,13 +342,14 @@ impl State {
     }
 
     /// The place of a request at an earlier turn of the loop of the message that the worker takes next, or at an earlier epoch outside loops.
+    #[inline(always)]
     pub fn due(&self, worker: usize) -> Option<usize>
         requires { worker < length self.now.sides }
         ensures { IfSome result (λ at. at < length (side_at self.now worker).requests) }
     {
         let worker = &self.workers[worker];
         let mailbox = worker.mailbox();
-        if mailbox.len() == 0 {
+        if mailbox.len() == 0 || worker.requests().len() == 0 {
             return None;
         }
         let next = next_place(self.wiring.graph().edges(), mailbox);
@@ -369,6 +374,7 @@ impl State {
     }
 
     /// The first place, from `from` on and within the window, of a message that is like the worker's first.
+    #[inline(always)]
     pub fn next_alike(&self, worker: usize, from: usize) -> Option<usize>
         requires { worker < length self.now.sides }
         ensures found { IfSome result (λ at. (from ≤ at) × AreAlike (side_at self.now worker).mail at) }
@@ -438,6 +444,7 @@ impl State {
     }
 
     /// A time of which the shard of a message's vertex keeps something that it may let go, at that vertex, and that may have passed.
+    #[inline(always)]
     pub fn earlier(&self, worker: usize, place: usize) -> Option<Pointstamp>
         requires there { worker < length self.now.sides }
         requires free { (side_at self.now worker).place ≡ Home }
@@ -459,6 +466,7 @@ impl State {
     }
 
     /// Lets the worker's shard of a vertex go of what it keeps of a time.
+    #[inline(always)]
     pub fn forget(&mut self, worker: usize, passed: &Pointstamp)
         requires there { worker < length self.old.sides }
         requires may { MayForget self.old worker passed.now }
@@ -474,6 +482,7 @@ impl State {
     }
 
     /// Hands out a message. Takes no memory.
+    #[inline(always)]
     pub fn claim_message(&mut self, worker: usize, place: usize) -> Work
         requires there { worker < length self.old.sides }
         requires free { (side_at self.old worker).place ≡ Home }
@@ -490,6 +499,7 @@ impl State {
     }
 
     /// Hands out a request. Takes no memory.
+    #[inline(always)]
     pub fn claim_request(&mut self, worker: usize, place: usize) -> Work
         requires there { worker < length self.old.sides }
         requires free { (side_at self.old worker).place ≡ Home }
@@ -517,6 +527,7 @@ impl State {
 
     /// Ends the event, notes what becomes active, and gives the event's pointstamp and what it sends. If memory runs out, nothing changes, and the
     /// event comes back whole.
+    #[inline(always)]
     pub fn commit<V: Views>(
         &mut self,
         views: &mut V,
@@ -564,6 +575,7 @@ impl State {
 }
 
 /// The vertex of a location.
+#[inline(always)]
 fn vertex_at(graph: &Graph, location: Location) -> usize
     requires { IsIn (shown_graph graph.now) (location_of location) }
     ensures { result ≡ location_vertex (shown_graph graph.now) (location_of location) }
@@ -575,6 +587,7 @@ fn vertex_at(graph: &Graph, location: Location) -> usize
 }
 
 /// Stores what is emitted. If memory runs out, it comes back.
+#[inline(always)]
 fn emit(emitted: &mut Emitted, vertex: usize, epoch: u32, output: Output) -> Result<Output, Output>
     requires { vertex < length emitted.old }
     ensures ok { IfOk result (λ o. emitted.new ≡ with_emitted vertex epoch output.emitted emitted.old) }

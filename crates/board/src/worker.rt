@@ -139,6 +139,7 @@ impl Worker {
     }
 
     /// Reserves room for that many more messages.
+    #[inline(always)]
     pub fn reserve_mail(&mut self, more: usize) -> Result<(), NoMemory>
         ensures side { self.new.side ≡ self.old.side }
         ensures kept { self.old.mail_room ≤ self.new.mail_room }
@@ -149,6 +150,7 @@ impl Worker {
     }
 
     /// Reserves room for one more request.
+    #[inline(always)]
     pub fn reserve_request(&mut self) -> Result<(), NoMemory>
         ensures side { self.new.side ≡ self.old.side }
         ensures mail { self.new.mail_room ≡ self.old.mail_room }
@@ -158,6 +160,7 @@ impl Worker {
     }
 
     /// Appends a message to the mailbox. Takes no memory.
+    #[inline(always)]
     pub fn put(&mut self, message: Message)
         requires { 0 < self.old.mail_room }
         ensures side { self.new.side ≡ with_mail self.old.side message }
@@ -178,6 +181,7 @@ impl Worker {
     }
 
     /// Hands out a message, with the shard of its vertex. Takes no memory.
+    #[inline(always)]
     pub fn send_message(&mut self, place: usize, vertex: usize) -> (Event, Stub<Event>)
         requires free { self.old.side.place ≡ Home }
         requires there { place < length self.old.side.mail }
@@ -203,6 +207,7 @@ impl Worker {
     }
 
     /// Hands out a request, with the shard of its vertex. Takes no memory.
+    #[inline(always)]
     pub fn send_request(&mut self, place: usize, vertex: usize) -> (Event, Stub<Event>)
         requires free { self.old.side.place ≡ Home }
         requires there { place < length self.old.side.requests }
@@ -228,6 +233,7 @@ impl Worker {
     }
 
     /// A time of which the shard of a vertex keeps something that it may let go, and that may have passed when something comes at `now`.
+    #[inline(always)]
     pub fn earlier(&self, vertex: usize, now: &Time) -> Option<Time>
         requires { vertex < length self.now.side.shards }
         ensures { OnSome result (LooksHere (slice_index_or self.now.side.shards vertex None)) }
@@ -236,6 +242,7 @@ impl Worker {
     }
 
     /// Lets the shard of a vertex go of what it keeps of a time.
+    #[inline(always)]
     pub fn forget(&mut self, vertex: usize, time: &Time)
         requires vertex { vertex < length self.old.side.shards }
         requires shard { (x : shard.Shard) × (slice_index_or self.old.side.shards vertex None ≡ Some x) }
@@ -255,6 +262,7 @@ impl Worker {
     }
 
     /// Ends the event: takes back its shard, the wiring and what was divided, and stores the request that it makes. Takes no memory.
+    #[inline(always)]
     pub fn settle(
         &mut self,
         vertex: usize,

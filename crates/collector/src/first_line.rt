@@ -43,6 +43,7 @@ fn any_line<'a>(
 }
 
 /// Reads the first line after `epochs` epochs have begun: what it says, and the text after it.
+#[inline(always)]
 pub fn next_line<'a>(
     text: &'a [u8],
     inputs: &[DeclaredInput],

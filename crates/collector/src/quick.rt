@@ -68,6 +68,7 @@ fn quick_signed(text: &[u8]) -> Option<(i64, &[u8])>
 }
 
 /// Fills the buffer with the fields at the head of the text, each after a space, up to a line feed after the last; gives the text after it.
+#[inline(always)]
 fn quick_fields<'a>(text: &'a [u8], fields: &mut [i64]) -> Option<&'a [u8]>
     ensures spelled { IfSome result (λ after. text.entry.now ≡ flat_map spaced fields.new ++ 10 ∷ after.now) }
     ensures fit { IfSome result (λ after. Fit fields.new) }
@@ -91,6 +92,7 @@ fn quick_fields<'a>(text: &'a [u8], fields: &mut [i64]) -> Option<&'a [u8]>
 }
 
 /// Makes the buffer hold that many fields, whatever they are.
+#[inline(always)]
 fn set_len(fields: &mut Vec<i64>, count: usize) -> Result<(), AllocError>
     ensures { OnOk result (length fields.new.items ≡ count) }
 {
@@ -101,6 +103,7 @@ fn set_len(fields: &mut Vec<i64>, count: usize) -> Result<(), AllocError>
     Ok(())
 }
 
+#[inline(always)]
 fn is_same(word: &[u8], name: &[u8]) -> bool
     ensures { IsTrue result ↔ (word.now ≡ name.now) }
 {
@@ -108,6 +111,7 @@ fn is_same(word: &[u8], name: &[u8]) -> bool
 }
 
 /// The text after a name at the head of the text, if a space follows it.
+#[inline(always)]
 fn after_name<'a>(text: &'a [u8], name: &[u8]) -> Option<&'a [u8]>
     ensures some { IfSome result (λ rest. text.entry.now ≡ name.now ++ rest.now) }
     ensures none { IfNone result ((rest : List ℕ) → text.entry.now ≡ name.now ++ 32 ∷ rest → ⊥) }
@@ -125,6 +129,7 @@ fn after_name<'a>(text: &'a [u8], name: &[u8]) -> Option<&'a [u8]>
 }
 
 /// Reads the record at the head of the text: the number of its input, and the text after its line.
+#[inline(always)]
 pub fn quick_row<'a>(
     text: &'a [u8],
     inputs: &[DeclaredInput],

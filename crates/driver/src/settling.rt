@@ -16,6 +16,7 @@ use rows::WorkFault;
 use std::alloc::Global;
 
 /// Computes an event by the gate. One that is refused is abandoned, which stops the board. `turn` counts the events of the caller's thread.
+#[inline(always)]
 pub fn compute<V: Views, G: Gate>(
     alloc: Global,
     board: &mut Board<V>,
@@ -43,6 +44,7 @@ pub fn compute<V: Views, G: Gate>(
 }
 
 /// Commits an event that was computed, and gives what it sends. Without memory abandons it, which stops the board.
+#[inline(always)]
 pub fn commit<V: Views>(board: &mut Board<V>, done: Done) -> Result<Sent, NoMemory>
     requires own { IsOf board.old.shown done }
     ensures ends { Ends board.old.shown board.new.shown done result }
@@ -62,6 +64,7 @@ pub fn commit<V: Views>(board: &mut Board<V>, done: Done) -> Result<Sent, NoMemo
 }
 
 /// Commits an event that was computed elsewhere, and gives what it sends. Abandons one that was refused there.
+#[inline(always)]
 pub fn settle<V: Views>(
     board: &mut Board<V>,
     computed: Result<Done, (Work, WorkFault)>,
@@ -88,6 +91,7 @@ pub fn settle<V: Views>(
 }
 
 /// Computes an event by the gate, and settles it.
+#[inline(always)]
 pub fn process<V: Views, G: Gate>(
     alloc: Global,
     board: &mut Board<V>,

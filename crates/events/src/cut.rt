@@ -49,6 +49,7 @@ impl Model for CutBatch {
 
 impl CutBatch {
     /// Cuts a batch for an input, at first for epoch 0.
+    #[inline(always)]
     pub fn of(
         alloc: Global,
         wiring: &Arc<Wiring, Global>,
@@ -102,6 +103,7 @@ impl CutBatch {
     }
 
     /// Its messages.
+    #[inline(always)]
     pub fn letters(&self) -> &[Letter]
         ensures { result.now ≡ cut_letters self.now }
     {
@@ -109,6 +111,7 @@ impl CutBatch {
     }
 
     /// Gives the messages away, to be sent.
+    #[inline(always)]
     pub fn into_letters(self) -> Vec<Letter>
         ensures same { result.items ≡ cut_letters self }
     {
@@ -133,6 +136,7 @@ impl CutBatch {
 }
 
 /// Sets the time of each message.
+#[inline(always)]
 fn set_times(letters: &mut [Letter], epoch: u32)
     ensures { letters.new ≡ map (at_time (at_epoch epoch)) letters.old }
 {
@@ -142,6 +146,7 @@ fn set_times(letters: &mut [Letter], epoch: u32)
 }
 
 /// Sets the time of a message.
+#[inline(always)]
 fn set_time(letter: &mut Letter, epoch: u32)
     ensures { letter.new ≡ at_time (at_epoch epoch) letter.old }
 {

@@ -14,6 +14,7 @@ use std::alloc::Global;
 pub trait Gate {
     /// Computes the event, as `Work::compute` does: a refusal spoils the work, and another call is refused in the same way. Apart from lack of memory,
     /// the first refusal is `Count` exactly where a count is too large.
+    #[inline(always)]
     fn compute(
         &self,
         alloc: Global,
@@ -28,6 +29,7 @@ pub trait Gate {
         ensures over { work.1 ≡ None → IfErr result (λ e. e.1 ≡ Count → CountsOver work.0.job) };
 
     /// Called after the event is committed.
+    #[inline(always)]
     fn after_commit(&self, worker: u32, turn: u64);
 }
 
@@ -35,6 +37,7 @@ pub trait Gate {
 pub struct NoGate;
 
 impl Gate for NoGate {
+    #[inline(always)]
     fn compute(
         &self,
         alloc: Global,
@@ -45,5 +48,6 @@ impl Gate for NoGate {
         work.compute(alloc)
     }
 
+    #[inline(always)]
     fn after_commit(&self, _worker: u32, _turn: u64) {}
 }

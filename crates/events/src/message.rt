@@ -44,6 +44,7 @@ impl Model for Message {
 
 impl Message {
     /// A message of one batch. Takes no memory.
+    #[inline(always)]
     pub fn new(alloc: Global, edge: EdgeId, time: Time, batch: Batch) -> Message
         ensures { result ≡ record { edge = edge.0; time = time; records = batch } }
     {
@@ -57,12 +58,14 @@ impl Message {
         }
     }
 
+    #[inline(always)]
     pub fn edge(&self) -> EdgeId
         ensures { result.0 ≡ self.now.edge }
     {
         self.edge
     }
 
+    #[inline(always)]
     pub fn time(&self) -> &Time
         ensures { result.now ≡ self.now.time }
     {
@@ -70,6 +73,7 @@ impl Message {
     }
 
     /// Sets the time at which the message arrives.
+    #[inline(always)]
     pub fn set_time(&mut self, time: Time)
         ensures { self.new ≡ record self.old { time = time } }
     {
@@ -77,6 +81,7 @@ impl Message {
     }
 
     /// The number of records, repeats counted; 18446744073709551615 if there are more.
+    #[inline(always)]
     pub fn len(&self) -> usize
         ensures { result ≡ min (length self.now.records) 18446744073709551615 }
     {
@@ -93,6 +98,7 @@ impl Message {
     }
 
     /// Whether the other message may be merged into this one. Looks at no record.
+    #[inline(always)]
     pub fn may_merge(&self, other: &Message) -> bool
         ensures { IsTrue result ↔ MayMerge self.now other.now }
     {
@@ -134,6 +140,7 @@ impl Message {
     }
 
     /// The edge, the time, and the records as one batch, in some order. Copies records only if there are several batches.
+    #[inline(always)]
     pub fn into_parts(self, alloc: Global) -> Result<(EdgeId, Time, Batch), NoMemory>
         ensures edge { IfOk result (λ p. p.0.0 ≡ self.edge) }
         ensures time { IfOk result (λ p. p.1 ≡ self.time) }

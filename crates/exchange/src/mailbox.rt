@@ -37,12 +37,14 @@ impl<T> Mailbox<T> {
     }
 
     /// The number of messages that wait.
+    #[inline(always)]
     pub fn len(&self) -> usize
         ensures { result ≡ length self.now.messages }
     {
         self.messages.len()
     }
 
+    #[inline(always)]
     pub fn is_empty(&self) -> bool
         ensures { IsTrue result ↔ (self.now.messages ≡ []) }
     {
@@ -50,6 +52,7 @@ impl<T> Mailbox<T> {
     }
 
     /// The message at a place, counted from 0 in order of arrival.
+    #[inline(always)]
     pub fn get(&self, place: usize) -> &T
         requires { place < length self.now.messages }
         ensures { result.now ≡ slice_index_or self.now.messages place result.now }
@@ -68,6 +71,7 @@ impl<T> Mailbox<T> {
     }
 
     /// Appends a message, or gives it back if memory is short.
+    #[inline(always)]
     pub fn put(&mut self, message: T) -> Result<(), AllocFailed<T>>
         ensures messages { self.new.messages ≡ (if is_ok result then self.old.messages ++ message ∷ [] else self.old.messages) }
         ensures back { IfErr result (λ e. e.value ≡ message) }
@@ -76,6 +80,7 @@ impl<T> Mailbox<T> {
     }
 
     /// Appends a message; there must be room. Takes no memory.
+    #[inline(always)]
     pub fn put_reserved(&mut self, message: T)
         requires { 0 < self.old.room }
         ensures messages { self.new.messages ≡ self.old.messages ++ message ∷ [] }
@@ -107,12 +112,19 @@ impl<T> Mailbox<T> {
     }
 
     /// Removes the message at a place, counted from 0; those behind it move up. Takes no memory.
+    #[inline(always)]
     pub fn take(&mut self, place: usize) -> T
         requires { place < length self.old.messages }
         ensures value { result ≡ slice_index_or self.old.messages place result }
         ensures messages { self.new.messages ≡ remove self.old.messages place }
         ensures room { self.new.room ≡ self.old.room + 1 }
     {
+        if place == 0 {
+            return match self.messages.pop_front() {
+                Some(message) => message,
+                None => unreachable!(),
+            };
+        }
         match self.messages.remove(place) {
             Some(message) => message,
             None => unreachable!(),

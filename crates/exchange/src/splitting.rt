@@ -26,6 +26,7 @@ pub type Parcels = Vec<Parcel>;
 
 /// Divides a batch among 1 to 64 workers: one parcel for each worker that gets records, which keep their order. If all go to one worker, the batch is
 /// passed on unchanged.
+#[inline(always)]
 pub fn split(
     alloc: Global,
     batch: Batch,

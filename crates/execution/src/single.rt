@@ -32,6 +32,7 @@ use workers::{Ended, Gate, report_of};
 const EVENTS_AT_ONCE: u32 = 64;
 
 /// Feeds an epoch at each input, and seals it there.
+#[inline(always)]
 fn feed_epoch<V: Views>(
     alloc: Global,
     board: &mut Board<V>,
@@ -57,6 +58,7 @@ fn feed_epoch<V: Views>(
 }
 
 /// As `work_off`, and tells a watcher meanwhile how many records were received.
+#[inline(always)]
 #[tactic(auto, using(crate::proofs::Tellings::tells_nothing))]
 fn work_and_tell<V: Views, G: Gate, W: Write>(
     alloc: Global,
@@ -88,6 +90,7 @@ fn work_and_tell<V: Views, G: Gate, W: Write>(
 }
 
 /// Works until there is nothing to do now, and tells a watcher how many epochs have passed then.
+#[inline(always)]
 #[tactic(auto, using(crate::proofs::Tellings::tells_nothing))]
 fn work_now<V: Views, G: Gate, W: Write>(
     alloc: Global,

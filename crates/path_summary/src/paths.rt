@@ -94,6 +94,7 @@ impl Paths {
 
     /// Whether `p` could result in `q`: some path, perhaps without steps, takes it to one at or before `q`. The time of each must have the depth of
     /// its location.
+    #[inline(always)]
     pub fn could(&self, p: &Pointstamp, q: &Pointstamp) -> bool
         requires from { IsTimeAt (shown_graph self.now) p.now.location p.now.time }
         requires to { IsTimeAt (shown_graph self.now) q.now.location q.now.time }
@@ -136,6 +137,7 @@ fn rows_of(alloc: Global, links: &Links, summaries: &mut Summaries) -> Result<Ve
 }
 
 /// Whether `p` could result in `q`, by the table.
+#[inline(always)]
 fn could_in(
     links: &Links,
     summaries: &Summaries,
@@ -158,6 +160,7 @@ fn could_in(
 }
 
 /// Whether the entry from one vertex to another, followed by the action, takes `p` to a time at or before that of `q`.
+#[inline(always)]
 fn comes(
     summaries: &Summaries,
     rows: &[Kept],
@@ -176,6 +179,7 @@ fn comes(
 }
 
 /// The entry from one vertex to another.
+#[inline(always)]
 fn entry<'a>(summaries: &'a Summaries, rows: &[Kept], from: u32, to: u32) -> Option<&'a Summary>
     ensures none { IfNone result (entry_at summaries.now rows.now from to ≡ None) }
     ensures some { IfSome result (λ f. entry_at summaries.now rows.now from to ≡ Some f.now) }
@@ -188,6 +192,7 @@ fn entry<'a>(summaries: &'a Summaries, rows: &[Kept], from: u32, to: u32) -> Opt
 }
 
 /// Whether a summary followed by an action takes `time` to one at or before `until`.
+#[inline(always)]
 fn covers(summary: &Summary, action: Action, time: &Time, until: &Time) -> bool
     ensures { Decides result (Covers (Some summary.now) (action_of action) time.now until.now) }
 {
@@ -195,6 +200,7 @@ fn covers(summary: &Summary, action: Action, time: &Time, until: &Time) -> bool
 }
 
 /// Whether `p` is at the location of `q`, and at or before its time.
+#[inline(always)]
 fn stays(p: &Pointstamp, q: &Pointstamp) -> bool
     ensures { Decides result (Stays p.now.location p.now.time q.now.location q.now.time) }
 {

@@ -85,6 +85,7 @@ impl Row {
     }
 
     /// The code at a vertex; 0 beyond the last vertex.
+    #[inline(always)]
     fn code(&self, x: u32) -> usize
         ensures { result ≡ slice_index_or self.now x 0 }
     {

@@ -141,11 +141,15 @@ impl Summary {
         parts && self.tail.as_slice() == other.tail.as_slice()
     }
 
-    /// Whether this summary, followed by the action, takes these counters to ones at or before those of `until`.
+    /// Whether this summary, followed by the action, takes these counters to ones at or before those of `until`. Out of all loops there are none.
+    #[inline(always)]
     pub fn reaches(&self, action: Action, counters: &[u32], until: &[u32]) -> bool
         requires { length counters.now ≤ max_loops }
         ensures { result ≡ in_order (counters_after (action_of action) (carried self.now counters.now)) until.now }
     {
+        if action == Action::Stay && self.keep == 0 && self.tail.is_empty() {
+            return true;
+        }
         let mut carried = self.carried(counters);
         act(&mut carried, action);
         in_order_wide(carried.as_slice(), until)

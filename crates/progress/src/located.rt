@@ -95,10 +95,12 @@ impl Progress for LocationTracker {
         Ok(())
     }
 
+    #[inline(always)]
     fn spare(&self) -> u32 {
         self.spare
     }
 
+    #[inline(always)]
     fn add(&mut self, p: &Pointstamp) {
         let fresh = is_empty_at(&self.edges, &self.vertices, p.location());
         put(&mut self.edges, &mut self.vertices, p, &mut self.rooms);
@@ -106,12 +108,14 @@ impl Progress for LocationTracker {
         self.spare -= 1;
     }
 
+    #[inline(always)]
     fn remove(&mut self, p: &Pointstamp) {
         take(&mut self.edges, &mut self.vertices, p, &mut self.rooms);
         let empty = is_empty_at(&self.edges, &self.vertices, p.location());
         unlist(&mut self.listed, p.location(), empty);
     }
 
+    #[inline(always)]
     fn in_frontier(&self, p: &Pointstamp) -> bool {
         is_clear(
             &self.paths,
@@ -123,6 +127,7 @@ impl Progress for LocationTracker {
         )
     }
 
+    #[inline(always)]
     fn none_before(&self, p: &Pointstamp) -> bool {
         is_clear(
             &self.paths,
@@ -162,6 +167,7 @@ fn make_rooms(alloc: Global, rooms: &mut Vec<Room>, count: u32) -> Result<(), No
 }
 
 /// The tree of a location, if there is one.
+#[inline(always)]
 fn tree_at<'a>(edges: &'a [Tree], vertices: &'a [Tree], location: Location) -> Option<&'a Tree>
     ensures some { IfSome result (λ t. t.now ≡ bag_at edges.now vertices.now (location_of location)) }
     ensures none { IfNone result (bag_at edges.now vertices.now (location_of location) ≡ []) }
@@ -173,6 +179,7 @@ fn tree_at<'a>(edges: &'a [Tree], vertices: &'a [Tree], location: Location) -> O
 }
 
 /// Whether nothing is active at the location.
+#[inline(always)]
 fn is_empty_at(edges: &[Tree], vertices: &[Tree], location: Location) -> bool
     ensures empty { result ≡ true → IsNone (bag_at edges.now vertices.now (location_of location)) }
     ensures some { result ≡ false → HasSome (bag_at edges.now vertices.now (location_of location)) }
@@ -184,6 +191,7 @@ fn is_empty_at(edges: &[Tree], vertices: &[Tree], location: Location) -> bool
 }
 
 /// Adds one occurrence of `p`.
+#[inline(always)]
 fn put(edges: &mut Vec<Tree>, vertices: &mut Vec<Tree>, p: &Pointstamp, rooms: &mut Vec<Room>)
     requires known { IsIn (length edges.old.items) (length vertices.old.items) p.now.location }
     requires room { 0 < length rooms.old.items }
@@ -199,6 +207,7 @@ fn put(edges: &mut Vec<Tree>, vertices: &mut Vec<Tree>, p: &Pointstamp, rooms: &
 }
 
 /// Adds one occurrence of a time to the tree of that number.
+#[inline(always)]
 fn add_at(trees: &mut Vec<Tree>, number: u32, time: &Time, rooms: &mut Vec<Room>)
     requires there { number < length trees.old.items }
     requires room { 0 < length rooms.old.items }
@@ -215,6 +224,7 @@ fn add_at(trees: &mut Vec<Tree>, number: u32, time: &Time, rooms: &mut Vec<Room>
 }
 
 /// Removes one occurrence of `p`.
+#[inline(always)]
 fn take(edges: &mut Vec<Tree>, vertices: &mut Vec<Tree>, p: &Pointstamp, rooms: &mut Vec<Room>)
     requires known { IsIn (length edges.old.items) (length vertices.old.items) p.now.location }
     requires active { 0 < times_at edges.old.items vertices.old.items p.now }
@@ -230,6 +240,7 @@ fn take(edges: &mut Vec<Tree>, vertices: &mut Vec<Tree>, p: &Pointstamp, rooms: 
 }
 
 /// Removes one occurrence of a time from the tree of that number.
+#[inline(always)]
 fn remove_at(trees: &mut Vec<Tree>, number: u32, time: &Time, rooms: &mut Vec<Room>)
     requires there { number < length trees.old.items }
     requires active { 0 < count (slice_index_or trees.old.items number []) time.now }
@@ -242,6 +253,7 @@ fn remove_at(trees: &mut Vec<Tree>, number: u32, time: &Time, rooms: &mut Vec<Ro
 }
 
 /// Adds a location to the list if it is fresh.
+#[inline(always)]
 fn list(listed: &mut Vec<Location>, location: Location, fresh: bool)
     requires { vec_len listed.old < vec_capacity listed.old }
     ensures fresh { fresh ≡ true → Among (map location_of listed.new.items) (location_of location) }
@@ -255,6 +267,7 @@ fn list(listed: &mut Vec<Location>, location: Location, fresh: bool)
 }
 
 /// Removes a location from the list if nothing is active there any more.
+#[inline(always)]
 fn unlist(listed: &mut Vec<Location>, location: Location, empty: bool)
     ensures still { (l : Place) → (empty ≡ true → l ≡ location_of location → ⊥) →
         Among (map location_of listed.old.items) l → Among (map location_of listed.new.items) l }
@@ -282,6 +295,7 @@ fn place_of(listed: &[Location], location: Location) -> Option<usize>
 }
 
 /// The location at that place in the list.
+#[inline(always)]
 #[tactic(auto, using(crate::proofs::Places::get_mapped))]
 fn location_at(listed: &[Location], place: usize) -> Location
     requires { place < length listed.now }
@@ -291,6 +305,7 @@ fn location_at(listed: &[Location], place: usize) -> Location
 }
 
 /// Whether nothing active could result in `p`; if `other`, nothing but `p` itself.
+#[inline(always)]
 fn is_clear(
     paths: &Paths,
     edges: &[Tree],
@@ -314,6 +329,7 @@ fn is_clear(
 }
 
 /// As `is_clear`, for what is active at one location.
+#[inline(always)]
 fn is_clear_at(
     paths: &Paths,
     edges: &[Tree],
@@ -336,6 +352,7 @@ fn is_clear_at(
 }
 
 /// Whether none of these times of a location could result in `p`. Checks one of them.
+#[inline(always)]
 fn is_clear_in(paths: &Paths, tree: &Tree, location: Location, p: &Pointstamp, other: bool) -> bool
     requires to { IsTimeAt (shown_graph paths.now) p.now.location p.now.time }
     requires known { (t : Instant) → 0 < count tree.now t → IsTimeAt (shown_graph paths.now) (location_of location) t }
@@ -351,6 +368,7 @@ fn is_clear_in(paths: &Paths, tree: &Tree, location: Location, p: &Pointstamp, o
 }
 
 /// Whether `p` itself is excepted and is at that location.
+#[inline(always)]
 fn is_excepting(location: Location, p: &Pointstamp, other: bool) -> bool
     ensures { IsTrue result ↔ ((other ≡ true) × (location_of location ≡ p.now.location)) }
 {

@@ -43,10 +43,12 @@ impl Range {
         near: 0xff_ffff_ffff,
     };
 
+    #[inline(always)]
     fn is_wide(&self) -> bool {
         self.near < self.high.saturating_sub(self.low)
     }
 
+    #[inline(always)]
     fn middle(&self) -> u64 {
         self.low
             .saturating_add(self.high.saturating_sub(self.low) / 2)
@@ -54,6 +56,7 @@ impl Range {
 
     /// The key at which a new fork divides the range. A wide range is divided at an end of the keys near this one, since the next keys most likely
     /// fall there; any other in the middle.
+    #[inline(always)]
     fn split(&self, key: u64) -> u64 {
         let end = (key | self.near).saturating_add(1);
         let start = key & !self.near;
@@ -69,6 +72,7 @@ impl Range {
     }
 
     /// The near distance for a part of the range: twice as great for a wide range, so that few wide ranges are nested.
+    #[inline(always)]
     fn near_below(&self) -> u64 {
         if self.is_wide() {
             self.near.saturating_mul(2) | 1
@@ -77,6 +81,7 @@ impl Range {
         }
     }
 
+    #[inline(always)]
     fn lower(&self, split: u64) -> Range {
         Range {
             low: self.low,
@@ -85,6 +90,7 @@ impl Range {
         }
     }
 
+    #[inline(always)]
     fn upper(&self, split: u64) -> Range {
         Range {
             low: split,
@@ -138,6 +144,7 @@ impl Tree {
     }
 
     /// The time with the least counters.
+    #[inline(always)]
     fn top(&self) -> Option<&Time>
         ensures none { IfNone result (IsNone self.now × (top self.now ≡ None)) }
         ensures top { IfSome result (λ t. (n : ℕ) × (top self.now ≡ Some (counted_time t.now n))) }
@@ -151,6 +158,7 @@ impl Tree {
     }
 
     /// Whether the tree has no time.
+    #[inline(always)]
     pub fn is_empty(&self) -> bool
         ensures empty { result ≡ true → IsNone self.now }
         ensures some { result ≡ false → HasSome self.now }
@@ -235,6 +243,7 @@ impl Tree {
     }
 
     /// Whether this is a fork with an empty side.
+    #[inline(always)]
     fn is_one_sided(&self) -> bool {
         match &self.node {
             Node::Leaf => false,
@@ -334,6 +343,7 @@ impl Tree {
 }
 
 /// Keeps the room of a removed fork for reuse, if that takes no memory.
+#[inline(always)]
 fn keep(rooms: &mut Vec<Room>, left: Box<Tree>, right: Box<Tree>)
     ensures { length rooms.old.items ≤ length rooms.new.items }
 {
@@ -343,6 +353,7 @@ fn keep(rooms: &mut Vec<Room>, left: Box<Tree>, right: Box<Tree>)
 }
 
 /// A fork of one entry.
+#[inline(always)]
 fn single(room: Room, entry: Entry, split: u64) -> Node
     requires { 0 < entry.count }
     ensures node { IsNode result }
@@ -368,6 +379,7 @@ fn entry_of(node: Node) -> Option<Entry>
 }
 
 /// Keeps the entry with the lesser counters here, and gives the other.
+#[inline(always)]
 fn sift(here: &mut Entry, entry: Entry) -> Entry
     ensures { IsSifted here.old entry here.new result }
 {
@@ -379,6 +391,7 @@ fn sift(here: &mut Entry, entry: Entry) -> Entry
 }
 
 /// Whether both trees are empty.
+#[inline(always)]
 fn are_empty(left: &Tree, right: &Tree) -> bool
     ensures { result ≡ true → IsNone left.now × IsNone right.now }
 {
@@ -400,6 +413,7 @@ fn leads(left: &Tree, right: &Tree) -> bool
 }
 
 /// Whether a time is in no later epoch than `until` and, if `other`, different from it.
+#[inline(always)]
 fn is_asked(time: &Time, until: &Time, other: bool) -> bool
     ensures { IsTrue result ↔ IsAsked until.now other time.now }
 {
@@ -407,6 +421,7 @@ fn is_asked(time: &Time, until: &Time, other: bool) -> bool
 }
 
 /// The number by which times are distributed over the tree: the epoch, then the mixed counters.
+#[inline(always)]
 fn key(time: &Time) -> u64
     ensures { result ≡ key_of time.now }
 {

@@ -21,6 +21,7 @@ pub(crate) fn fill(counts: &mut Vec<u64>, len: usize) -> Result<(), NoMemory>
 }
 
 /// Raises the count of a place. After a refusal the counts are as they were.
+#[inline(always)]
 pub(crate) fn raise(counts: &mut Vec<u64>, place: usize, count: u64) -> Result<(), WorkFault>
     requires counts { AreCounts counts.old.items }
     requires place { place < 18446744073709551615 }

@@ -13,9 +13,10 @@ const FEW: usize = 4;
 
 /// A time that has a state, and that may have passed when something comes at `now`: the turn before in the same loop, or the epoch before
 /// outside loops. Where that has none, and where many are kept, another one by turns.
+#[inline(always)]
 pub(crate) fn earlier<S: Drop>(times: &IndexMap<Time, S>, now: &Time) -> Option<Time> {
     let kept = times.len();
-    if kept <= FEW {
+    if kept > 1 && kept <= FEW {
         if let Some(before) = before(now) {
             if times.contains_key(&before) {
                 return Some(before);
@@ -30,6 +31,7 @@ pub(crate) fn earlier<S: Drop>(times: &IndexMap<Time, S>, now: &Time) -> Option<
 }
 
 /// Keeps a state for a time that has none.
+#[inline(always)]
 pub(crate) fn put<S: Drop>(
     times: &mut IndexMap<Time, S>,
     time: &Time,
@@ -42,6 +44,7 @@ pub(crate) fn put<S: Drop>(
 }
 
 /// Lets go of the state of a time, and gives it, if there is one. Takes constant time.
+#[inline(always)]
 pub(crate) fn forget<S: Drop>(times: &mut IndexMap<Time, S>, time: &Time) -> Option<S>
     ensures { (t : TimeShown) → get same_time times.new t ≡ cond (same_time time.now t) None (get same_time times.old t) }
 {
@@ -49,6 +52,7 @@ pub(crate) fn forget<S: Drop>(times: &mut IndexMap<Time, S>, time: &Time) -> Opt
 }
 
 /// The turn before in the same loop, or the epoch before outside loops.
+#[inline(always)]
 fn before(time: &Time) -> Option<Time> {
     let counters = time.counters();
     let depth = time.depth();

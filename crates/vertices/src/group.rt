@@ -57,6 +57,7 @@ impl GroupShard {
 
     /// Takes in a batch of a time, and says whether it is the first of that time, which asks for a notification. `Count` exactly where
     /// a record would then have come too often.
+    #[inline(always)]
     pub fn on_records(&mut self, time: &Time, batch: &Batch) -> Result<bool, WorkFault>
         requires arity { arity_of batch.now ≡ self.old.arity }
         requires whole { (a : Absorbed) × AreStatesOf (IsPileThen self.old.arity) self.old.times a }
@@ -74,6 +75,7 @@ impl GroupShard {
     }
 
     /// A record for each group of a time.
+    #[inline(always)]
     pub fn on_notify(&self, alloc: Global, time: &Time) -> Result<Rows, WorkFault>
         ensures grouped { IfOk result (λ rows. ForAbsorbed (IsPileThen self.now.arity) self.now.times time.now (AreGroupRecords self.now.operator rows.rows)) }
         ensures different { IfOk result (λ rows. AreDifferent rows.rows) }

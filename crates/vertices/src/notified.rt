@@ -33,6 +33,7 @@ pub enum Notified {
 impl Notified {
     /// Takes a batch that comes to an in port into the state of its time. It sends nothing, and asks for a notification at the first batch
     /// of a time. `Count` exactly where a record would then have come to the port too often.
+    #[inline(always)]
     pub(crate) fn on_records(
         &mut self,
         alloc: Global,
@@ -75,6 +76,7 @@ impl Notified {
     }
 
     /// Sends what is due at the notification of a time. `Count` exactly where a record would be sent too often.
+    #[inline(always)]
     pub(crate) fn on_notify(
         &self,
         alloc: Global,
@@ -136,6 +138,7 @@ impl Notified {
 }
 
 /// Sends nothing, and asks for a notification at the first batch of a time.
+#[inline(always)]
 fn group(shard: &mut GroupShard, time: &Time, batch: &Batch, out: &mut Out) -> Result<(), WorkFault>
     requires arity { arity_of batch.now ≡ shard.old.arity }
     requires whole { (a : Absorbed) × NotifiedShows (Group shard.old) a }
@@ -157,6 +160,7 @@ fn group(shard: &mut GroupShard, time: &Time, batch: &Batch, out: &mut Out) -> R
 }
 
 /// Sends a record for each group of a time.
+#[inline(always)]
 fn group_notified(
     shard: &GroupShard,
     alloc: Global,
@@ -222,6 +226,7 @@ fn except_notified(
 
 /// Sends nothing, and asks for a notification at the first batch of a time. `Count` exactly where a record would then have come too
 /// often.
+#[inline(always)]
 fn unseen(
     shard: &mut UnseenShard,
     alloc: Global,
@@ -246,6 +251,7 @@ fn unseen(
 }
 
 /// Sends the records that came at no earlier turn: out of the loop, and into the body before the turn of that number.
+#[inline(always)]
 fn unseen_notified(
     shard: &UnseenShard,
     alloc: Global,
@@ -266,6 +272,7 @@ fn unseen_notified(
 
 /// Sends nothing, and asks for a notification at the first batch of a time, at whichever port it comes. `Count` exactly where a record
 /// would then have come to the port too often.
+#[inline(always)]
 fn lookup(
     shard: &mut LookupShard,
     alloc: Global,
@@ -291,6 +298,7 @@ fn lookup(
 }
 
 /// Sends the records of port 0 at the time, joined with those that came to port 1 then and at earlier turns.
+#[inline(always)]
 fn lookup_notified(
     shard: &LookupShard,
     alloc: Global,

@@ -20,6 +20,7 @@ pub struct Out {
 
 impl Out {
     /// Nothing.
+    #[inline(always)]
     pub fn new() -> Out
         ensures { result ≡ record { first = None; second = None; asked = false } }
     {
@@ -31,6 +32,7 @@ impl Out {
     }
 
     /// What is sent by out ports 0 and 1; `None` where nothing is.
+    #[inline(always)]
     pub fn into_batches(self) -> (Option<Batch>, Option<Batch>)
         ensures first { records_of result.0 ≡ two self 0 }
         ensures second { records_of result.1 ≡ two self 1 }
@@ -39,6 +41,7 @@ impl Out {
     }
 
     /// Whether a notification is asked for.
+    #[inline(always)]
     pub fn asked(&self) -> bool
         ensures { result ≡ self.now.asked }
     {
@@ -46,6 +49,7 @@ impl Out {
     }
 
     /// Sends rows by port 0, if there are some. They are different.
+    #[inline(always)]
     pub(crate) fn send(&mut self, alloc: Global, rows: CountedRows) -> Result<(), WorkFault>
         requires { AreDifferent (rows_of rows.runs) }
         ensures sent { OnOk result (records_of self.new.first ≡ expanded rows.runs) }
@@ -59,6 +63,7 @@ impl Out {
     }
 
     /// Sends rows by port 1, if there are some, and the same ones by port 0 if they go around. They are different.
+    #[inline(always)]
     pub(crate) fn send_new(
         &mut self,
         alloc: Global,

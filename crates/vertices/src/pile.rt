@@ -56,6 +56,7 @@ impl Pile {
     }
 
     /// Takes a batch in. `Count` exactly where a record would then occur too often.
+    #[inline(always)]
     pub(crate) fn add(&mut self, batch: &Batch) -> Result<(), WorkFault>
         requires { arity_of batch.now ≡ self.old.arity }
         ensures records { OnOk result (self.new.records ≈ (self.old.records ++ batch.now)) }
@@ -90,6 +91,7 @@ impl Pile {
 }
 
 /// Takes in the records of a batch.
+#[inline(always)]
 fn absorb(pile: &mut Pile, batch: &Batch) -> Result<(), WorkFault>
     requires { arity_of batch.now ≡ pile.old.arity }
     ensures records { OnOk result (pile.new.records ≈ (pile.old.records ++ batch.now)) }
@@ -103,6 +105,7 @@ fn absorb(pile: &mut Pile, batch: &Batch) -> Result<(), WorkFault>
 }
 
 /// Takes in a batch of a time, and says whether it is the first of that time. `Count` exactly where a record would then have come too often.
+#[inline(always)]
 pub(crate) fn take_in(
     alloc: Global,
     arity: usize,

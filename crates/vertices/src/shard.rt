@@ -33,6 +33,7 @@ impl Shard {
     /// Takes in a batch that comes to an in port at a time; what the shard sends for it, and whether it asks to be notified, goes
     /// into `out`, which is empty before. The records have the arity of the port. `Count` comes exactly where the shard would then keep,
     /// or send, a record too often. After a refusal the shard is spoiled.
+    #[inline(always)]
     pub fn on_records(
         &mut self,
         alloc: Global,
@@ -76,6 +77,7 @@ impl Shard {
 
     /// Sends what is due at the notification that was asked for at a time: nothing more comes at that time. `Count` exactly where a record
     /// would be sent too often.
+    #[inline(always)]
     pub fn on_notify(&self, alloc: Global, time: &Time, out: &mut Out) -> Result<(), WorkFault>
         requires role { role (shard_kind self.now) ≡ Role.notified }
         requires whole { (a : Absorbed) × Shows self.now a }
@@ -99,6 +101,7 @@ impl Shard {
 
     /// A time of which it keeps something, and that may have passed when something comes at `now`: the turn before in the same loop, or the
     /// epoch before outside loops, or another. `None` also if it keeps nothing by time, or if its notifications read what came at other times.
+    #[inline(always)]
     pub fn earlier(&self, now: &Time) -> Option<Time>
         ensures { OnSome result (looks_back (shard_kind self.now) ≡ false) }
     {
@@ -118,6 +121,7 @@ impl Shard {
     }
 
     /// Lets go of what it keeps of a time. What it shows of other times is as it was.
+    #[inline(always)]
     pub fn forget(&mut self, time: &Time)
         ensures kind { shard_kind self.new ≡ shard_kind self.old }
         ensures arity { (p n : ℕ) → TakesArity self.old p n → TakesArity self.new p n }

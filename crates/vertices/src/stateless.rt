@@ -31,6 +31,7 @@ pub enum Stateless {
 
 impl Stateless {
     /// Sends what the vertex makes of a batch that comes to an in port. `Count` exactly where a record would be sent too often.
+    #[inline(always)]
     pub(crate) fn on_records(
         &self,
         alloc: Global,
@@ -76,6 +77,7 @@ impl Stateless {
 }
 
 /// Sends the records of the scalars' values. `Count` exactly where one of them would be sent too often.
+#[inline(always)]
 #[tactic(auto, using(crate::proofs::Sending::select_sends))]
 fn select(
     operator: &Select,
@@ -95,6 +97,7 @@ fn select(
 }
 
 /// Sends the records at which the condition holds.
+#[inline(always)]
 #[tactic(auto, using(crate::proofs::Sending::filter_sends))]
 fn filter(
     operator: &Where,
@@ -115,6 +118,7 @@ fn filter(
 }
 
 /// Sends the same batch on.
+#[inline(always)]
 #[tactic(auto, using(crate::proofs::Sending::same_sends))]
 fn forward(time: &Time, port: u32, batch: Batch, out: &mut Out)
     requires { port < 2 }
@@ -130,6 +134,7 @@ fn forward(time: &Time, port: u32, batch: Batch, out: &mut Out)
 }
 
 /// Sends the same batch around the loop before the turn of that number, and out of the loop at it.
+#[inline(always)]
 #[tactic(auto, using(crate::proofs::Sending::gate_sends))]
 fn gate(turns: u64, time: &Time, batch: Batch, out: &mut Out)
     requires { out.old ≡ record { first = None; second = None; asked = false } }

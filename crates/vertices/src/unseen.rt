@@ -52,6 +52,7 @@ impl UnseenShard {
 
     /// Takes in a batch of a time, and says whether it is the first of that time, which asks for a notification. `Count` exactly where a
     /// record would then have come too often.
+    #[inline(always)]
     pub fn on_records(
         &mut self,
         alloc: Global,
@@ -98,6 +99,7 @@ impl UnseenShard {
     }
 
     /// The records that came at a time, each once, without those that came at an earlier turn of its innermost loop.
+    #[inline(always)]
     pub fn on_notify(&self, alloc: Global, time: &Time) -> Result<Rows, WorkFault>
         requires { (a : Absorbed) × IsUnseenOf self.now a }
         ensures rows { IfOk result (λ rows. (a : Absorbed) → IsUnseenOf self.now a → rows.rows ≈ only_left (a 0 time.now) (flat_map (a 0) (earlier_turns time.now))) }

@@ -59,6 +59,7 @@ impl<P: Progress> Views for Direct<P> {
 
     ghost late = { false };
 
+    #[inline(always)]
     fn reserve(&mut self, count: u32) -> Result<(), NoMemory> {
         self.tracker.reserve(count)
     }
@@ -67,6 +68,7 @@ impl<P: Progress> Views for Direct<P> {
         self.tracker.spare()
     }
 
+    #[inline(always)]
     fn post(&mut self, _sender: u32, added: &[Pointstamp], removed: &[Pointstamp]) {
         add_all(&mut self.tracker, added);
         remove_all(&mut self.tracker, removed);
@@ -80,10 +82,12 @@ impl<P: Progress> Views for Direct<P> {
         false
     }
 
+    #[inline(always)]
     fn in_frontier(&self, _worker: u32, p: &Pointstamp) -> bool {
         self.tracker.in_frontier(p)
     }
 
+    #[inline(always)]
     fn none_before(&self, _worker: u32, p: &Pointstamp) -> bool {
         self.tracker.none_before(p)
     }

@@ -8,6 +8,7 @@ use path_summary::Pointstamp;
 use progress::Progress;
 
 /// Adds one occurrence of each.
+#[inline(always)]
 pub fn add_all<P: Progress>(tracker: &mut P, added: &[Pointstamp])
     requires room { length added.now ≤ P.room tracker.old }
     requires known { (q : Active) → 0 < times_in added.now q → IsTimeAt (P.graph tracker.old) q.location q.time }
@@ -21,6 +22,7 @@ pub fn add_all<P: Progress>(tracker: &mut P, added: &[Pointstamp])
 }
 
 /// Removes one occurrence of each.
+#[inline(always)]
 pub fn remove_all<P: Progress>(tracker: &mut P, removed: &[Pointstamp])
     requires there { (q : Active) → times_in removed.now q ≤ P.content tracker.old q }
     ensures graph { P.graph tracker.new ≡ P.graph tracker.old }

@@ -77,6 +77,7 @@ pub trait Views: Drop {
         ensures room { room self.old ≤ room self.new };
 
     /// Whether a batch waits for the worker.
+    #[inline(always)]
     fn waits(&self, worker: u32) -> bool
         requires worker { worker < workers self.now }
         ensures { MatchBool result (SomeWait (waiting self.now) (workers self.now) worker) (NoneWaits (waiting self.now) (workers self.now) worker) };
