@@ -4,8 +4,9 @@ ghost use Rattle.std.specs.Prelude.{◌≡◌, [], Some};
 ghost use Rattle.collector.specs.Watching.{inner_of};
 ghost use Rattle.commands.specs.Readings.{RunsOver};
 
+use crate::reading::read_query;
 use crate::run_options::RunOptions;
-use crate::running::run;
+use crate::running::answer;
 use crate::streams::Streams;
 use collector::Watched;
 use command_line::Workers;
@@ -27,26 +28,40 @@ fn streams_in_memory(alloc: Global) -> Streams<Vec<u8>, Vec<u8>, Vec<u8>>
     }
 }
 
-/// Runs a query text over an input text in memory. What was read of the input is left in `texts`.
+/// Runs a query text over an input text in memory. What was read of the query, and the input text, are left in `texts`.
 fn run_in_memory<R: Threads + Wait + Sync>(
     rt: &R,
     alloc: Global,
     workers: Workers,
     query: &[u8],
-    input: &[u8],
+    input: Vec<u8>,
     texts: &mut Texts,
     streams: &mut Streams<Vec<u8>, Vec<u8>, Vec<u8>>,
 ) -> Result<(), Fault>
-    ensures { RunsOver (Some query.now) (Some input.now) (Some (inner_of streams.old.out).items) (Some (inner_of streams.new.out).items) result }
+    ensures { RunsOver (Some query.now) (Some input.items) (Some (inner_of streams.old.out).items) (Some (inner_of streams.new.out).items) result }
 {
     let options = RunOptions {
         workers,
         gate: &NoGate,
         stats: None,
     };
-    let mut query = Watched::new(query);
-    let mut input = Watched::new(input);
-    run(rt, alloc, options, &mut query, &mut input, texts, streams)
+    match read_query(alloc, &mut Watched::new(query)) {
+        Ok(text) => texts.query = text,
+        Err(fault) => return Err(fault),
+    }
+    texts.input = input;
+    let mut early = Vec::new(alloc);
+    let done = answer(
+        rt,
+        alloc,
+        options,
+        &texts.query,
+        &texts.input,
+        &mut early,
+        streams,
+    );
+    texts.early = early;
+    done
 }
 
 /// The fault of a run in memory: where it couldn't write, memory lacked.
@@ -80,7 +95,7 @@ impl<'a, R: Threads + Wait + Sync> Answering for InMemory<'a, R> {
         alloc: Global,
         workers: Workers,
         query: &[u8],
-        input: &[u8],
+        input: Vec<u8>,
         texts: &mut Texts,
     ) -> Result<Vec<u8>, Fault> {
         let mut streams = streams_in_memory(alloc);

@@ -60,7 +60,13 @@ fn epochs_of_text<R: Threads + Sync>(
 }
 
 /// Answers a query text over an input text, and notes which inputs are early.
-fn answer<R: Threads + Wait + Sync, G: Gate + Sync, W: Write, O: Write + Send + Drop, E: Write>(
+pub(crate) fn answer<
+    R: Threads + Wait + Sync,
+    G: Gate + Sync,
+    W: Write,
+    O: Write + Send + Drop,
+    E: Write,
+>(
     rt: &R,
     alloc: Global,
     options: RunOptions<'_, G>,

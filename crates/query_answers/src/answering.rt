@@ -12,15 +12,15 @@ pub trait Answering {
     // What must be known of its types where it is used: of one with threads, that they may share its handle.
     ghost is_usable: { Type 0 };
 
-    /// The answer of a query text to an input text, by that many workers. What was read of the input is left in `texts`.
+    /// The answer of a query text to an input text, by that many workers. The input text is left in `texts`, so it isn't copied.
     fn answer_text(
         &self,
         alloc: Global,
         workers: Workers,
         query: &[u8],
-        input: &[u8],
+        input: Vec<u8>,
         texts: &mut Texts,
     ) -> Result<Vec<u8>, Fault>
         requires { is_usable }
-        ensures { IfOk result (λ answer. IsRun (read_part query.now) input.now answer.items) };
+        ensures { IfOk result (λ answer. IsRun (read_part query.now) input.items answer.items) };
 }

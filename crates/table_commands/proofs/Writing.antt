@@ -1,5 +1,5 @@
 -- From what was read to what was written.
-use Rattle.std.proofs.Common.{ℕ, List, Option}
+use Rattle.std.proofs.Common.{ℕ, Bool, List, Option}
 use Rattle.std.specs.Io.KnownBytes.{Appends}
 use Rattle.query_kinds.specs.Listed.{IsListed}
 use Rattle.schema.specs.declared.tables.Schema.{Schema}
@@ -19,10 +19,11 @@ listed-kinds known name query listing old new (schema, is, text, read, listed) w
   written = w;
 }
 
-pub encoded : (known : Known) (name : List ℕ) (words paths : List (List ℕ)) (dictionary : Option (List ℕ)) (schema : Schema) (old new : Option (List ℕ))
-    → IsReadSchema (known name) schema → AreNamed schema.inputs.items words paths → WritesInput known schema paths dictionary old new
-    → HasEncoded known name words dictionary old new
-encoded known name words paths dictionary schema old new is named w = record {
+pub encoded : (known : Known) (name : List ℕ) (words paths : List (List ℕ)) (dictionary : Option (List ℕ)) (mark : Bool) (schema : Schema)
+    (old new : Option (List ℕ))
+    → IsReadSchema (known name) schema → AreNamed schema.inputs.items words paths → WritesInput known schema paths dictionary mark old new
+    → HasEncoded known name words dictionary mark old new
+encoded known name words paths dictionary mark schema old new is named w = record {
   schema = schema;
   paths = paths;
   read = is;

@@ -1,7 +1,8 @@
 -- What `encode`, `decode` and `kinds` write.
-use Rattle.std.specs.Prelude.{◌≡◌, ℕ, List, [], Option, Some, None, map, option_map, true}
+use Rattle.std.specs.Prelude.{◌≡◌, ◌++◌, ℕ, List, [], Option, Some, None, Bool, map, option_map, true, false}
 use Rattle.std.specs.List.{list_any}
 use Rattle.std.specs.Io.KnownBytes.{Appends}
+use Rattle.collector.specs.Mark.{end_mark}
 pub use Rattle.query_answers.specs.Runs.{Known}
 use Rattle.query_kinds.specs.Listed.{IsListed}
 use Rattle.schema.specs.declared.tables.Schema.{Schema}
@@ -17,25 +18,33 @@ abbrev pub BeginsWith : Known → (dictionary : Option (List ℕ)) → (texts : 
 BeginsWith known None texts = texts ≡ []
 BeginsWith known (Some name) texts = IsOpenedAs true (known name) texts
 
+-- an input text, and behind it the end mark if it is to have one
+abbrev pub marked : (has_mark : Bool) → (text : List ℕ) → List ℕ
+marked false text = text
+marked true text = text ++ end_mark
+
 -- the input text of the files: by the dictionary's texts, with those of the schema's constants and of the files added in this order
-pub record IsEncodedBy (known : Known) (schema : Schema) (paths : List (List ℕ)) (dictionary : Option (List ℕ)) (text : List ℕ) : Type 0 where
+pub record IsEncodedBy (known : Known) (schema : Schema) (paths : List (List ℕ)) (dictionary : Option (List ℕ)) (has_mark : Bool) (out : List ℕ) : Type 0 where
   pub old : List (List ℕ)
   pub new : List (List ℕ)
+  pub text : List ℕ
   pub begins : BeginsWith known dictionary old
   pub numbered : AreNumbered schema.constants.items old new
   pub encoded : IsInputOf known schema paths new text
+  pub ended : out ≡ marked has_mark text
 
 -- that text was written
-abbrev pub WritesInput : Known → Schema → (paths : List (List ℕ)) → (dictionary : Option (List ℕ)) → Option (List ℕ) → Option (List ℕ) → Type 0
-WritesInput known schema paths dictionary old new = (text : List ℕ) × IsEncodedBy known schema paths dictionary text × Appends old new text
+abbrev pub WritesInput : Known → Schema → (paths : List (List ℕ)) → (dictionary : Option (List ℕ)) → (has_mark : Bool) → Option (List ℕ) → Option (List ℕ) → Type 0
+WritesInput known schema paths dictionary has_mark old new =
+    (out : List ℕ) × IsEncodedBy known schema paths dictionary has_mark out × Appends old new out
 
 -- `encode`: it was written of the files that the words name, by the schema of that name
-pub record HasEncoded (known : Known) (name : List ℕ) (words : List (List ℕ)) (dictionary : Option (List ℕ)) (old new : Option (List ℕ)) : Type 0 where
+pub record HasEncoded (known : Known) (name : List ℕ) (words : List (List ℕ)) (dictionary : Option (List ℕ)) (has_mark : Bool) (old new : Option (List ℕ)) : Type 0 where
   pub schema : Schema
   pub paths : List (List ℕ)
   pub read : IsReadSchema (known name) schema
   pub named : AreNamed schema.inputs.items words paths
-  pub written : WritesInput known schema paths dictionary old new
+  pub written : WritesInput known schema paths dictionary has_mark old new
 
 -- the texts of the dictionary, if one is named
 abbrev pub AreKnownBy : Known → (dictionary : Option (List ℕ)) → (texts : List (List ℕ)) → Type 0
@@ -72,6 +81,7 @@ pub record HasListedKinds (known : Known) (name query : List ℕ) (old new : Opt
 
 -- what was asked for was done
 abbrev pub IsDone : Known → Asked → (old new : Option (List ℕ)) → Type 0
-IsDone known (Encode schema files dictionary) old new = HasEncoded known schema.now (map (λ s. s.now) files.items) (option_map (λ s. s.now) dictionary) old new
+IsDone known (Encode schema files dictionary end_mark) old new =
+    HasEncoded known schema.now (map (λ s. s.now) files.items) (option_map (λ s. s.now) dictionary) end_mark old new
 IsDone known (Decode asked) old new = HasDecoded known asked.schema.now asked.answer.now (option_map (λ s. s.now) asked.dictionary) (option_map (λ s. s.now) asked.output) old new
 IsDone known (Kinds asked) old new = HasListedKinds known asked.schema.now asked.query.now old new

@@ -57,11 +57,13 @@ fn obey<'a, S: Sources<'a>, D: Drafts, W: Write>(
             schema,
             files,
             dictionary,
+            end_mark,
         } => {
             let asked = Encoding {
                 schema: *schema,
                 files: files.as_slice(),
                 dictionary: *dictionary,
+                end_mark: *end_mark,
             };
             encode_files(alloc, sources, drafts, asked, out)
         }

@@ -1,9 +1,9 @@
 //! The command `encode`.
 
-ghost use Rattle.std.specs.Prelude.{◌≡◌, ◌⊎◌, IfErr, IfOk, None, OnOk, Some, map, option_map};
+ghost use Rattle.std.specs.Prelude.{◌≡◌, ◌⊎◌, IfErr, IfOk, List, None, OnOk, Some, map, option_map, ℕ};
 ghost use Rattle.collector.specs.Watching.{inner_of};
 ghost use Rattle.csv_cells.specs.Texts.{texts_of};
-ghost use Rattle.table_commands.specs.Done.{HasEncoded, IsEncodedBy, WritesInput};
+ghost use Rattle.table_commands.specs.Done.{HasEncoded, IsEncodedBy, WritesInput, marked};
 ghost use Rattle.table_commands.specs.Read.{IsInputOf, IsReadSchema};
 ghost use Rattle.table_commands.specs.Written.{IsWriteFault};
 ghost use Rattle.tables.specs.Inputs.{AreNumbered};
@@ -19,12 +19,25 @@ use table_files::{
 };
 use tables::encode;
 
+/// The last line of an input that has an end mark.
+const END_MARK: &[u8] = b"end\n";
+
 /// What `encode` is asked for.
 #[derive(Clone, Copy)]
 pub struct Encoding<'a, 'w> {
     pub schema: &'a str,
     pub files: &'w [&'a str],
     pub dictionary: Option<&'a str>,
+    /// Whether the input text is to end with the end mark.
+    pub end_mark: bool,
+}
+
+/// What is encoded: the files of the schema's inputs, in its order.
+#[derive(Clone, Copy)]
+struct Files<'s, 'a> {
+    schema: &'s Schema,
+    paths: &'s [&'a str],
+    end_mark: bool,
 }
 
 /// The input text of the files, which are those of the schema's inputs, in its order. New texts go to the end of the dictionary.
@@ -50,19 +63,37 @@ pub fn input_text<'a, S: Sources<'a>>(
     }
 }
 
-/// The input text of the files, and the dictionary's text after it, if that has grown.
+/// The input text of the files, with the end mark if it is to have one. New texts go to the end of the dictionary.
+fn marked_text<'a, S: Sources<'a>>(
+    alloc: Global,
+    sources: &S,
+    files: Files<'_, 'a>,
+    dictionary: &mut Dictionary,
+) -> Result<Vec<u8>, Fault<'a>>
+    ensures input { IfOk result (λ out. (text : List ℕ) × (out.items ≡ marked files.entry.end_mark text)
+        × IsInputOf (S.content sources.now) files.entry.schema.now (map (λ s. s.now) files.entry.paths.now) (texts_of dictionary.new) text) }
+    ensures numbered { OnOk result (AreNumbered files.entry.schema.now.constants.items (texts_of dictionary.old) (texts_of dictionary.new)) }
+{
+    let mut text = input_text(alloc, sources, files.schema, files.paths, dictionary)?;
+    if files.end_mark {
+        text.extend_from_slice(END_MARK)?;
+    }
+    Ok(text)
+}
+
+/// The same by the dictionary of that name, and the dictionary's text after it, if that has grown.
 fn encoded_with<'a, S: Sources<'a>>(
     alloc: Global,
     sources: &S,
-    schema: &Schema,
-    paths: &[&'a str],
+    files: Files<'_, 'a>,
     name: &'a str,
 ) -> Result<(Vec<u8>, Option<Vec<u8>>), Fault<'a>>
-    ensures { IfOk result (λ made. IsEncodedBy (S.content sources.now) schema.now (map (λ s. s.now) paths.now) (Some name.now) made.0.items) }
+    ensures { IfOk result (λ made. IsEncodedBy (S.content sources.now) files.entry.schema.now (map (λ s. s.now) files.entry.paths.now) (Some name.now)
+        files.entry.end_mark made.0.items) }
 {
     let mut dictionary = dictionary_of(alloc, sources, name, true)?;
     let count = dictionary.len();
-    let text = input_text(alloc, sources, schema, paths, &mut dictionary)?;
+    let text = marked_text(alloc, sources, files, &mut dictionary)?;
     let kept = grown_text(alloc, &dictionary, count)?;
     Ok((text, kept))
 }
@@ -72,17 +103,16 @@ fn encode_with<'a, S: Sources<'a>, D: Drafts, W: Write>(
     alloc: Global,
     sources: &S,
     drafts: &D,
-    schema: &Schema,
-    paths: &[&'a str],
+    files: Files<'_, 'a>,
     name: &'a str,
     out: &mut Watched<W>,
 ) -> Result<(), Fault<'a>>
-    ensures written { OnOk result (WritesInput (S.content sources.now) schema.now (map (λ s. s.now) paths.now) (Some name.now)
-        (W.contents (inner_of out.old)) (W.contents (inner_of out.new))) }
+    ensures written { OnOk result (WritesInput (S.content sources.now) files.entry.schema.now (map (λ s. s.now) files.entry.paths.now) (Some name.now)
+        files.entry.end_mark (W.contents (inner_of out.old)) (W.contents (inner_of out.new))) }
     ensures fault { IfErr result (λ fault. IsWriteFault fault ⊎ (W.contents (inner_of out.new) ≡ W.contents (inner_of out.old))) }
 {
     let draft = begin_dictionary(drafts, name)?;
-    match encoded_with(alloc, sources, schema, paths, name) {
+    match encoded_with(alloc, sources, files, name) {
         Ok(made) => write_with(drafts, draft, name, made, out),
         Err(fault) => {
             drafts.discard(draft);
@@ -95,19 +125,18 @@ fn encode_with<'a, S: Sources<'a>, D: Drafts, W: Write>(
 fn encode_without<'a, S: Sources<'a>, W: Write>(
     alloc: Global,
     sources: &S,
-    schema: &Schema,
-    paths: &[&'a str],
+    files: Files<'_, 'a>,
     out: &mut Watched<W>,
 ) -> Result<(), Fault<'a>>
-    ensures written { OnOk result (WritesInput (S.content sources.now) schema.now (map (λ s. s.now) paths.now) None
-        (W.contents (inner_of out.old)) (W.contents (inner_of out.new))) }
+    ensures written { OnOk result (WritesInput (S.content sources.now) files.entry.schema.now (map (λ s. s.now) files.entry.paths.now) None
+        files.entry.end_mark (W.contents (inner_of out.old)) (W.contents (inner_of out.new))) }
     ensures fault { IfErr result (λ fault. IsWriteFault fault ⊎ (W.contents (inner_of out.new) ≡ W.contents (inner_of out.old))) }
 {
-    if needs_dictionary(schema) {
+    if needs_dictionary(files.schema) {
         return Err(Fault::Words(WordFault::NoDictionary));
     }
     let mut none = Dictionary::new(alloc);
-    let text = input_text(alloc, sources, schema, paths, &mut none)?;
+    let text = marked_text(alloc, sources, files, &mut none)?;
     write_text(text.as_slice(), out)
 }
 
@@ -122,16 +151,21 @@ fn encode_by<'a, S: Sources<'a>, D: Drafts, W: Write>(
 ) -> Result<(), Fault<'a>>
     requires read { IsReadSchema (S.content sources.now asked.schema.now) schema.now }
     ensures written { OnOk result (HasEncoded (S.content sources.now) asked.entry.schema.now (map (λ s. s.now) asked.entry.files.now) (option_map (λ s. s.now) asked.entry.dictionary)
-        (W.contents (inner_of out.old)) (W.contents (inner_of out.new))) }
+        asked.entry.end_mark (W.contents (inner_of out.old)) (W.contents (inner_of out.new))) }
     ensures fault { IfErr result (λ fault. IsWriteFault fault ⊎ (W.contents (inner_of out.new) ≡ W.contents (inner_of out.old))) }
 {
     let paths = paths_of(alloc, schema, asked.files)?;
     if is_input_twice(&[asked.schema], paths.as_slice()) {
         return Err(Fault::Words(WordFault::InputTwice));
     }
+    let files = Files {
+        schema,
+        paths: paths.as_slice(),
+        end_mark: asked.end_mark,
+    };
     match asked.dictionary {
-        Some(name) => encode_with(alloc, sources, drafts, schema, paths.as_slice(), name, out),
-        None => encode_without(alloc, sources, schema, paths.as_slice(), out),
+        Some(name) => encode_with(alloc, sources, drafts, files, name, out),
+        None => encode_without(alloc, sources, files, out),
     }
 }
 
@@ -145,7 +179,7 @@ pub fn encode_files<'a, S: Sources<'a>, D: Drafts, W: Write>(
     out: &mut Watched<W>,
 ) -> Result<(), Fault<'a>>
     ensures written { OnOk result (HasEncoded (S.content sources.now) asked.entry.schema.now (map (λ s. s.now) asked.entry.files.now) (option_map (λ s. s.now) asked.entry.dictionary)
-        (W.contents (inner_of out.old)) (W.contents (inner_of out.new))) }
+        asked.entry.end_mark (W.contents (inner_of out.old)) (W.contents (inner_of out.new))) }
     ensures fault { IfErr result (λ fault. IsWriteFault fault ⊎ (W.contents (inner_of out.new) ≡ W.contents (inner_of out.old))) }
 {
     let schema = schema_of(alloc, sources, asked.schema)?;

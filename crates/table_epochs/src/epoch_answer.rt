@@ -130,11 +130,11 @@ fn file_of<'a, A: Answering>(
     job: &Job<'_, 'a>,
     number: u64,
     dictionary: &Dictionary,
-    input: &[u8],
+    input: Vec<u8>,
     texts: &mut Texts,
 ) -> Result<Vec<u8>, RunFault<'a>>
     requires { A.is_usable }
-    ensures { IfOk result (λ file. IsFileUnder job.now.table.now job.now.query.now number (texts_of dictionary.now) input.now file.items) }
+    ensures { IfOk result (λ file. IsFileUnder job.now.table.now job.now.query.now number (texts_of dictionary.now) input.items file.items) }
 {
     let answer = engine.answer_text(alloc, job.workers, job.query, input, texts)?;
     let text = numbered(alloc, number, answer.as_slice())?;
@@ -200,7 +200,7 @@ pub fn answer_epoch<'a, A: Answering>(
         &job,
         number,
         &following.dictionary,
-        input.as_slice(),
+        input,
         texts,
     )
 }

@@ -35,7 +35,7 @@ fn answer_file<'a, A: Answering, S: Sources<'a>>(
         (texts_of dictionary.old) file.items) }
 {
     let input = input_text(alloc, sources, job.schema, job.paths, dictionary)?;
-    let answer = engine.answer_text(alloc, job.workers, job.query, input.as_slice(), texts)?;
+    let answer = engine.answer_text(alloc, job.workers, job.query, input, texts)?;
     match decode(
         alloc,
         job.table,

@@ -1,7 +1,8 @@
 -- The words of `encode`, `decode` and `kinds`: the commands, and what the matches of the words hold.
-use Rattle.std.specs.Prelude.{◌≡◌, List, [], Option, Some, None, true, codes, map, option_map}
+use Rattle.std.specs.Prelude.{◌≡◌, List, [], Option, Some, None, Bool, true, false, codes, map, option_map}
+use Rattle.clap.specs.declared.builder.action.ArgAction.TheVariants.{SetTrue}
 use Rattle.clap.specs.Lexer.{usize_max}
-use Rattle.clap.specs.Words.{App, Row, Rule, Text, all_of, first_of, new_app, new_rule, subcommand_of, with_rule, with_subcommand}
+use Rattle.clap.specs.Words.{App, Row, Rule, Text, all_of, first_of, new_app, new_rule, one_of, subcommand_of, with_rule, with_subcommand}
 use Rattle.table_words.specs.declared.line.Asked.{Asked}
 use Rattle.table_words.specs.declared.line.Asked.TheVariants.{Encode, Decode, Kinds}
 
@@ -13,14 +14,20 @@ word_rule id = record (new_rule id) { required = true }
 abbrev pub named_rule : Text → Rule
 named_rule id = record (new_rule id) { long = Some id; value_names = 1 }
 
+-- a flag, `--` and its name
+abbrev pub flag_rule : Text → Rule
+flag_rule id = record (new_rule id) { long = Some id; action = Some SetTrue }
+
 -- one word or more
 abbrev pub words_rule : Text → Rule
 words_rule id = record (word_rule id) { range = Some (record { start_inclusive = 1; end_inclusive = usize_max }) }
 
--- `encode SCHEMA NAME=FILE ..`, with or without `--dictionary FILE`
+-- `encode SCHEMA NAME=FILE ..`, with or without `--dictionary FILE` and `--end-mark`
 abbrev pub encode_app : App
 encode_app =
-    with_rule (with_rule (with_rule (new_app (codes "encode")) (named_rule (codes "dictionary"))) (word_rule (codes "SCHEMA")))
+    with_rule
+    (with_rule (with_rule (with_rule (new_app (codes "encode")) (named_rule (codes "dictionary"))) (flag_rule (codes "end-mark")))
+    (word_rule (codes "SCHEMA")))
     (words_rule (codes "NAME=FILE"))
 
 -- `decode SCHEMA` or `decode SCHEMA ANSWER`, with or without `--dictionary FILE` and `--output NAME`
@@ -46,12 +53,17 @@ abbrev pub IsAskedAnswer : Option Text → Text → Type 0
 IsAskedAnswer None answer = answer ≡ codes "-"
 IsAskedAnswer (Some word) answer = answer ≡ word
 
+-- a flag is given or not
+abbrev pub IsFlag : Text → List Row → Bool → Type 0
+IsFlag id rows flag =
+    (one_of id rows ≡ Some (codes "true") → flag ≡ true) × (one_of id rows ≡ Some (codes "false") → flag ≡ false) × (one_of id rows ≡ None → flag ≡ false)
+
 -- what is asked for is what the matches of a command hold
 abbrev pub HoldsAt : Text → List Row → Asked → Type 0
-HoldsAt name rows (Encode schema files dictionary) =
+HoldsAt name rows (Encode schema files dictionary end_mark) =
     (name ≡ codes "encode") × (first_of (codes "SCHEMA") rows ≡ Some schema.now)
     × (all_of (codes "NAME=FILE") rows ≡ Some (map (λ s. s.now) files.items))
-    × (option_map (λ s. s.now) dictionary ≡ first_of (codes "dictionary") rows)
+    × (option_map (λ s. s.now) dictionary ≡ first_of (codes "dictionary") rows) × IsFlag (codes "end-mark") rows end_mark
 HoldsAt name rows (Decode asked) =
     (name ≡ codes "decode") × (first_of (codes "SCHEMA") rows ≡ Some asked.schema.now)
     × IsAskedAnswer (first_of (codes "ANSWER") rows) asked.answer.now

@@ -4,9 +4,9 @@ ghost use Rattle.std.specs.Prelude.{◌≡◌, IfOk, IfSome, codes, false, map, 
 ghost use Rattle.std.specs.Result.{IsOkAnd};
 ghost use Rattle.clap.specs.Words.{HasMatchesOf, all_of, app_of, first_of, found_of, new_app, new_rule, rows_of, rule_of, with_subcommand};
 ghost use Rattle.clap.specs.declared.builder.Command.TheViews.{out-Command as fields_of};
-ghost use Rattle.table_words.specs.Line.{Asks, HoldsAt, decode_app, encode_app, kinds_app, line_app, named_rule, word_rule, words_rule};
+ghost use Rattle.table_words.specs.Line.{Asks, HoldsAt, IsFlag, decode_app, encode_app, flag_rule, kinds_app, line_app, named_rule, word_rule, words_rule};
 
-use clap::{Arg, ArgMatches, Command, Error};
+use clap::{Arg, ArgAction, ArgMatches, Command, Error};
 use std::alloc::{AllocError, Global};
 
 /// What `decode` is asked for.
@@ -28,11 +28,12 @@ pub struct Listing<'a> {
 /// What a line of words asks for.
 #[derive(Drop)]
 pub enum Asked<'a> {
-    /// `loom encode SCHEMA NAME=FILE ..`, with or without `--dictionary FILE`
+    /// `loom encode SCHEMA NAME=FILE ..`, with or without `--dictionary FILE`; with `--end-mark` a line `end` is to end the input text
     Encode {
         schema: &'a str,
         files: Vec<&'a str>,
         dictionary: Option<&'a str>,
+        end_mark: bool,
     },
     /// `loom decode SCHEMA ANSWER`, with or without `--dictionary FILE` and `--output NAME`
     Decode(Decoding<'a>),
@@ -73,6 +74,17 @@ pub fn output_arg<'a>(alloc: Global) -> Arg<'a>
         .long("output")
         .value_name("NAME")
         .help("The output, if the schema has several")
+}
+
+/// The flag `--end-mark`.
+fn end_mark_arg<'a>(alloc: Global) -> Arg<'a>
+    ensures rule { rule_of result ≡ flag_rule (codes "end-mark") }
+    ensures local { result.global ≡ false }
+{
+    Arg::new(alloc, "end-mark")
+        .long("end-mark")
+        .action(ArgAction::SetTrue)
+        .help("End the input with a line 'end', for run --end-mark")
 }
 
 /// The words of the inputs' files.
@@ -130,6 +142,7 @@ fn encode_command<'a>(alloc: Global) -> Result<Command<'a>, AllocError>
 {
     named(alloc, "encode", "Write CSV files as an input, by a schema")
         .arg(dictionary_arg(alloc))?
+        .arg(end_mark_arg(alloc))?
         .arg(schema_arg(alloc))?
         .arg(files_arg(alloc))
 }
@@ -206,6 +219,13 @@ pub fn texts_of<'f, 'a>(found: &'f ArgMatches<'a>, id: &str) -> Option<&'f [&'a 
     found.get_strs(id)
 }
 
+/// Whether a flag is given.
+fn flag_of<'a>(found: &ArgMatches<'a>, id: &str) -> bool
+    ensures { IsFlag id.now (rows_of (found_of found.now)) result }
+{
+    found.get_flag(id)
+}
+
 /// What the matches of `encode` hold.
 fn encode_asked<'a>(alloc: Global, found: &ArgMatches<'a>) -> Result<Option<Asked<'a>>, AllocError>
     ensures { IfOk result (λ asked. IfSome asked (HoldsAt (codes "encode") (rows_of (found_of found.now)))) }
@@ -218,10 +238,12 @@ fn encode_asked<'a>(alloc: Global, found: &ArgMatches<'a>) -> Result<Option<Aske
     };
     let files = Vec::from_slice(alloc, words)?;
     let dictionary = text_of(found, "dictionary");
+    let end_mark = flag_of(found, "end-mark");
     Ok(Some(Asked::Encode {
         schema,
         files,
         dictionary,
+        end_mark,
     }))
 }
 

@@ -33,15 +33,17 @@ fn without_mark(file: &[u8]) -> &[u8]
     }
 }
 
-/// The lines of a table's file. A refusal is of its first fault: of its text, its header row, or its records.
+/// Appends the lines of a table's file. A refusal is of its first fault: of its text, its header row, or its records.
 fn encode_table(
     alloc: Global,
     table: &Table,
     shared: &[u8],
     dictionary: &mut Dictionary,
     file: &[u8],
-) -> Result<Vec<u8>, TableRefusal>
-    ensures encoded { IfOk result (λ lines. IsEncodedFile table.now shared.now file.now (texts_of dictionary.new) lines.items) }
+    out: &mut Vec<u8>,
+) -> Result<(), TableRefusal>
+    ensures encoded { OnOk result ((lines : List ℕ) × (out.new.items ≡ out.old.items ++ lines)
+        × IsEncodedFile table.now shared.now file.now (texts_of dictionary.new) lines) }
     ensures refused { IfErr result (IsRefusedFile table.now file.now (texts_of dictionary.new)) }
     ensures grows { OnOk result (Grows (texts_of dictionary.old) (texts_of dictionary.new)) }
 {
@@ -63,8 +65,9 @@ fn encode_table(
         target,
         dictionary,
         text,
+        out,
     ) {
-        Ok(lines) => Ok(lines),
+        Ok(()) => Ok(()),
         Err(refusal) => match refusal.fault {
             RecordFault::NoMemory => Err(TableRefusal::NoMemory),
             RecordFault::Fault(fault) => {
@@ -85,7 +88,7 @@ fn has_own(epochs: Epochs) -> bool
     }
 }
 
-/// The lines of a table, if it is one of those with epochs of their own, or of the others.
+/// Appends the lines of a table, if it is one of those with epochs of their own, or of the others.
 fn encode_part(
     alloc: Global,
     table: &Table,
@@ -93,15 +96,17 @@ fn encode_part(
     shared: &[u8],
     dictionary: &mut Dictionary,
     file: &[u8],
-) -> Result<Vec<u8>, TableRefusal>
-    ensures part { IfOk result (λ lines. IsPart own table.now shared.now file.now (texts_of dictionary.new) lines.items) }
+    out: &mut Vec<u8>,
+) -> Result<(), TableRefusal>
+    ensures part { OnOk result ((lines : List ℕ) × (out.new.items ≡ out.old.items ++ lines)
+        × IsPart own table.now shared.now file.now (texts_of dictionary.new) lines) }
     ensures refused { IfErr result (IsRefusedFile table.now file.now (texts_of dictionary.new)) }
     ensures grows { OnOk result (Grows (texts_of dictionary.old) (texts_of dictionary.new)) }
 {
     if has_own(table.epochs) != own {
-        return Ok(Vec::new(alloc));
+        return Ok(());
     }
-    encode_table(alloc, table, shared, dictionary, file)
+    encode_table(alloc, table, shared, dictionary, file, out)
 }
 
 /// The text of a file.
@@ -115,7 +120,7 @@ fn text_of<'a>(files: &'a [Vec<u8>], file: usize) -> &'a [u8]
     }
 }
 
-/// The lines of the tables with epochs of their own, or of the others.
+/// Appends the lines of the tables with epochs of their own, or of the others.
 fn encode_some(
     alloc: Global,
     schema: &Schema,
@@ -123,24 +128,29 @@ fn encode_some(
     shared: &[u8],
     dictionary: &mut Dictionary,
     files: &[Vec<u8>],
-) -> Result<Vec<u8>, EncodeRefusal>
-    ensures joined { IfOk result (λ out. AreJoined own shared.now (map (λ v. v.items) files.now) (texts_of dictionary.new) 0 schema.now.inputs.items out.items) }
+    out: &mut Vec<u8>,
+) -> Result<(), EncodeRefusal>
+    ensures joined { OnOk result ((lines : List ℕ) × (out.new.items ≡ out.old.items ++ lines)
+        × AreJoined own shared.now (map (λ v. v.items) files.now) (texts_of dictionary.new) 0 schema.now.inputs.items lines) }
     ensures refused { IfErr result (IsRefusedInput schema.now.inputs.items (map (λ v. v.items) files.now) (texts_of dictionary.new)) }
     ensures grows { OnOk result (Grows (texts_of dictionary.old) (texts_of dictionary.new)) }
 {
-    let mut out = Vec::new(alloc);
     for file in 0..schema.inputs.len() {
         let text = text_of(files, file);
-        let lines = match encode_part(alloc, &schema.inputs[file], own, shared, dictionary, text) {
-            Ok(lines) => lines,
+        match encode_part(
+            alloc,
+            &schema.inputs[file],
+            own,
+            shared,
+            dictionary,
+            text,
+            out,
+        ) {
+            Ok(()) => {}
             Err(refusal) => return Err(EncodeRefusal { file, refusal }),
-        };
-        if out.extend_from_slice(lines.as_slice()).is_err() {
-            let refusal = TableRefusal::NoMemory;
-            return Err(EncodeRefusal { file, refusal });
         }
     }
-    Ok(out)
+    Ok(())
 }
 
 /// Whether a table has an epoch for each value of a column.
@@ -162,16 +172,6 @@ fn number_constants(
         dictionary.number(alloc, constants[i].text.as_slice())?;
     }
     Ok(())
-}
-
-/// One epoch of these lines.
-fn one_epoch(alloc: Global, lines: &[u8]) -> Result<Vec<u8>, AllocError>
-    ensures { IfOk result (λ out. out.items ≡ codes "epoch" ++ 10 ∷ lines.now) }
-{
-    let mut out = Vec::new(alloc);
-    out.extend_from_slice(b"epoch\n")?;
-    out.extend_from_slice(lines)?;
-    Ok(out)
 }
 
 /// Lack of memory, told of the first file.
@@ -199,15 +199,26 @@ pub fn encode(
     if number_constants(alloc, schema.constants.as_slice(), dictionary).is_err() {
         return Err(no_memory());
     }
-    let shared = encode_some(alloc, schema, false, b"", dictionary, files)?;
-    if has_epochs(schema.inputs.as_slice()) {
-        let out = encode_some(alloc, schema, true, shared.as_slice(), dictionary, files)?;
+    let mut out = Vec::new(alloc);
+    if !has_epochs(schema.inputs.as_slice()) {
+        if out.extend_from_slice(b"epoch\n").is_err() {
+            return Err(no_memory());
+        }
+        encode_some(alloc, schema, false, b"", dictionary, files, &mut out)?;
         return Ok(out);
     }
-    match one_epoch(alloc, shared.as_slice()) {
-        Ok(out) => Ok(out),
-        Err(_) => Err(no_memory()),
-    }
+    let mut shared = Vec::new(alloc);
+    encode_some(alloc, schema, false, b"", dictionary, files, &mut shared)?;
+    encode_some(
+        alloc,
+        schema,
+        true,
+        shared.as_slice(),
+        dictionary,
+        files,
+        &mut out,
+    )?;
+    Ok(out)
 }
 
 /// Of files of which one is refused there is no input text by any dictionary, if the schema is right.

@@ -151,8 +151,8 @@ fn append_rows(
     Err(no_memory(u64::MAX))
 }
 
-/// The lines of the records of a CSV text under its header row, whose cells are to be these names. A refusal names the first record, from the header row
-/// on, that has other cells than these, has no numbers, or comes too late.
+/// Appends the lines of the records of a CSV text under its header row, whose cells are to be these names. A refusal names the first record, from the header
+/// row on, that has other cells than these, has no numbers, or comes too late.
 pub fn encode_rows(
     alloc: Global,
     names: &[Vec<u8>],
@@ -160,8 +160,10 @@ pub fn encode_rows(
     target: Target<'_>,
     dictionary: &mut Dictionary,
     text: &[u8],
-) -> Result<Vec<u8>, RowRefusal>
-    ensures encoded { IfOk result (λ out. AreEncoded (map (λ v. v.items) names.now) columns.now target.entry text.now (texts_of dictionary.new) out.items) }
+    out: &mut Vec<u8>,
+) -> Result<(), RowRefusal>
+    ensures encoded { OnOk result ((lines : List ℕ) × (out.new.items ≡ out.old.items ++ lines)
+        × AreEncoded (map (λ v. v.items) names.now) columns.now target.entry text.now (texts_of dictionary.new) lines) }
     ensures refused { IfErr result (λ r. AreRefused (map (λ v. v.items) names.now) columns.now target.entry.epochs text.now (texts_of dictionary.new) r.fault) }
     ensures grows { OnOk result (Grows (texts_of dictionary.old) (texts_of dictionary.new)) }
 {
@@ -170,10 +172,9 @@ pub fn encode_rows(
         Ok(()) => {}
         Err(fault) => return Err(RowRefusal { count: 0, fault }),
     }
-    let mut out = Vec::new(alloc);
-    match append_rows(alloc, columns, target, dictionary, &mut reader, &mut out) {
+    match append_rows(alloc, columns, target, dictionary, &mut reader, out) {
         Ok(()) => {}
         Err(refusal) => return Err(refusal),
     }
-    Ok(out)
+    Ok(())
 }

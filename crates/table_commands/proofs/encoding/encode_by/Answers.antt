@@ -21,10 +21,10 @@ returns-in-Some-clause-written g c =
     let paths = texts_now c.in_ok-paths.paths.items in
     let old = g.W.Write.contents (inner_of c.args.out.now) in
     let new = g.W.Write.contents (inner_of c.encode_with.new.out) in
-    on-ok {Q = HasEncoded known asked.schema.now (texts_now asked.files.now) (text_now asked.dictionary) old new} c.encode_with.result
-    (λ w. encoded known asked.schema.now (texts_now asked.files.now) paths (text_now asked.dictionary) schema old new c.requires.read
-    c.in_ok-paths.ensures (subst (λ d. WritesInput known schema paths d old new) (sym (ap text_now c.in-Some.is))
-    (subst (λ ps. WritesInput known schema (texts_now ps) (Some c.in-Some.name.now) old new) c.as_slice-in-Some.ensures.value w)))
+    on-ok {Q = HasEncoded known asked.schema.now (texts_now asked.files.now) (text_now asked.dictionary) asked.end_mark old new} c.encode_with.result
+    (λ w. encoded known asked.schema.now (texts_now asked.files.now) paths (text_now asked.dictionary) asked.end_mark schema old new c.requires.read
+    c.in_ok-paths.ensures (subst (λ d. WritesInput known schema paths d asked.end_mark old new) (sym (ap text_now c.in-Some.is))
+    (subst (λ ps. WritesInput known schema (texts_now ps) (Some c.in-Some.name.now) asked.end_mark old new) c.as_slice-2.ensures.value w)))
     c.encode_with.ensures.written
 
 pub returns-clause-written : goal.returns-clause-written
@@ -35,8 +35,8 @@ returns-clause-written g c =
     let paths = texts_now c.in_ok-paths.paths.items in
     let old = g.W.Write.contents (inner_of c.args.out.now) in
     let new = g.W.Write.contents (inner_of c.encode_without.new.out) in
-    on-ok {Q = HasEncoded known asked.schema.now (texts_now asked.files.now) (text_now asked.dictionary) old new} c.encode_without.result
-    (λ w. encoded known asked.schema.now (texts_now asked.files.now) paths (text_now asked.dictionary) schema old new c.requires.read
-    c.in_ok-paths.ensures (subst (λ d. WritesInput known schema paths d old new) (sym (ap text_now c.in-None.is))
-    (subst (λ ps. WritesInput known schema (texts_now ps) None old new) c.as_slice-in-None.ensures.value w)))
+    on-ok {Q = HasEncoded known asked.schema.now (texts_now asked.files.now) (text_now asked.dictionary) asked.end_mark old new} c.encode_without.result
+    (λ w. encoded known asked.schema.now (texts_now asked.files.now) paths (text_now asked.dictionary) asked.end_mark schema old new c.requires.read
+    c.in_ok-paths.ensures (subst (λ d. WritesInput known schema paths d asked.end_mark old new) (sym (ap text_now c.in-None.is))
+    (subst (λ ps. WritesInput known schema (texts_now ps) None asked.end_mark old new) c.as_slice-2.ensures.value w)))
     c.encode_without.ensures.written

@@ -21,7 +21,7 @@ returns-clause-answered g c =
     if-ok c.file_of.result (λ file h. answer-of f (reached_by c.args.following.now) new c.args.epoch c.in-Ok.input.items file.items counted
     (texts_of c.value_of.new.dictionary) c.in_ok-value.ensures.grows c.in-Ok.ensures.grows c.in_ok-value.ensures.value
     (c.is_late.ensures c.if-is_late.false) encoded
-    (subst (λ (i : List ℕ). IsFileUnder f.table f.query c.args.following.now.count new.texts i file.items) c.as_slice.ensures.value h))
+    h)
     c.file_of.ensures
 
 pub returns-clause-keeps : goal.returns-clause-keeps

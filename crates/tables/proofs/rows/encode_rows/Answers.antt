@@ -1,6 +1,6 @@
-use Rattle.std.proofs.Common.{◌≡◌, ◌++◌, ◌∙◌, ◌∷◌, [], ℕ, List, ap, map, subst, sym}
+use Rattle.std.proofs.Common.{◌∷◌, [], ℕ, List, map}
 use Rattle.csv_cells.specs.Texts.{texts_of}
-use Rattle.tables.specs.Tables.{AreEncoded, HasRead}
+use Rattle.tables.specs.Tables.{HasRead}
 use Rattle.tables.proofs.Faulty.{at-ok, header-refused}
 use Rattle.tables.proofs.rows.encode_rows.Goals as goal
 
@@ -19,5 +19,4 @@ returns-clause-encoded c =
     let names : List (List ℕ) = map (λ v. v.items) c.args.names.now in
     let read : HasRead c.args.text.now (names ∷ []) c.read_header.new.reader = at-ok c.read_header.result c.in-Ok.is c.read_header.ensures.found c.args.text.now c.new_reader-reader.ensures in
     let made = at-ok c.append_rows.result c.in-Ok-append_rows.is c.append_rows.ensures.encoded in
-    let lines : c.append_rows.new.out.items ≡ made.0 = made.1 ∙ ap (λ t. t ++ made.0) c.new-out.ensures.items in
-    subst (λ (t : List ℕ). AreEncoded names c.args.columns.now c.args.target c.args.text.now (texts_of c.append_rows.new.dictionary) t) (sym lines) (made.2 c.args.text.now names read)
+    (made.0, made.1, made.2 c.args.text.now names read)
