@@ -7,5 +7,5 @@
         graph) words="--dot --heap --explain --inline --help" ;;
         format) words="--explain --inline --help" ;;
         sql) words="--with --wrapped --epochs --dialect --output --explain --inline --help" ;;
-        encode) words="--dictionary --help" ;;
+        encode) words="--dictionary --end-mark --help" ;;
         decode) words="--dictionary --output --help" ;;
