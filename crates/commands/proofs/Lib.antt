@@ -9,3 +9,4 @@ pub mod Heeding
 pub mod OneAnswer
 pub mod HandedOver
 mod AppendedAnswer
+mod TakenLines

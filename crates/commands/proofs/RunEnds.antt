@@ -5,11 +5,14 @@ use Rattle.semantics.proofs.MeaningOfMultisets.{program_same}
 use Rattle.semantics.proofs.MultisetSums.{≈-trans}
 use Rattle.semantics.specs.Query.{Input, Name, Program}
 use Rattle.semantics.specs.Graph.{Graph}
-use Rattle.collector.specs.InputText.{IsInputText}
+use Rattle.graph.specs.Shown.{GraphValue, shown_graph, shown_inputs, shown_names}
+use Rattle.collector.specs.InputText.{IsInputText, IsReadFrom}
+use Rattle.collector.specs.ReadEpochs.{epoch_count, records_at}
+use Rattle.collector.specs.declared.epochs.Epochs.{Epochs}
 use Rattle.execution.specs.Single.{IsOfWork}
 use Rattle.execution.specs.declared.unfinished.Unfinished.{Unfinished}
 use Rattle.execution.specs.declared.unfinished.Unfinished.TheVariants as run
-use Rattle.commands.specs.Answers.{IsAnswer, Responds}
+use Rattle.commands.specs.Answers.{IsAnswer, Responds, RespondsBy}
 use Rattle.compile.specs.Compiled.{IsCompiled}
 use Rattle.commands.specs.Faults.{run_fault_of}
 use Rattle.commands.specs.Runs.{Ends, IsAfterReading}
@@ -38,7 +41,7 @@ responds_alike p count r s old new (Err Incomplete) same h = h
 responds_alike p count r s old new (Err ReadQuery) same h = h
 responds_alike p count r s old new (Err ReadInput) same h = h
 
-pub run_ends : (query input : List ℕ) (g : Graph) (inputs : List Input) (names : List Name) (count : ℕ) (records : ℕ → ℕ → List Record) (old new : Option (List ℕ)) (result : Result (Unit {0}) Fault) → (c : IsCompiled query g inputs names)
+run_ends : (query input : List ℕ) (g : Graph) (inputs : List Input) (names : List Name) (count : ℕ) (records : ℕ → ℕ → List Record) (old new : Option (List ℕ)) (result : Result (Unit {0}) Fault) → (c : IsCompiled query g inputs names)
     → IsInputText inputs input count records → Responds c.program count records old new result → Ends query input old new result
 run_ends query input g inputs names count records old new (Ok u) c h r =
     (r.0, record { program = c.program; count = count; records = records; reads = c.reads; epochs = subst (λ is. IsInputText is input count records) c.named h; answer = r.1 }, r.2)
@@ -55,6 +58,13 @@ run_ends query input g inputs names count records old new (Err NoWorker) c h r =
 run_ends query input g inputs names count records old new (Err Incomplete) c h r = r
 run_ends query input g inputs names count records old new (Err ReadQuery) c h r = absurd r
 run_ends query input g inputs names count records old new (Err ReadInput) c h r = absurd r
+
+-- a run ends as the answer over the epochs of its input does
+pub ends_by : (query input : List ℕ) (graph : GraphValue) (epochs : Epochs) (old new : Option (List ℕ)) (result : Result (Unit {0}) Fault) → IsCompiled query (shown_graph graph) (shown_inputs graph) (shown_names graph)
+    → IsReadFrom (shown_inputs graph) input epochs → RespondsBy graph epochs old new result → Ends query input old new result
+ends_by query input graph epochs old new result compiled (records, is, same) responds =
+    run_ends query input (shown_graph graph) (shown_inputs graph) (shown_names graph) (epoch_count epochs) records old new result compiled is
+    (responds_alike compiled.program (epoch_count epochs) (records_at epochs) records old new result same (responds query compiled))
 
 pub after_reading : (p : Program) (count : ℕ) (records : ℕ → ℕ → List Record) (old new : Option (List ℕ)) (result : Result (Unit {0}) Fault) → Responds p count records old new result → IfErr result IsAfterReading
 after_reading p count records old new (Ok u) r = tt

@@ -11,3 +11,4 @@ pub mod Replayed
 pub mod Followed
 pub mod Readings
 pub mod Reported
+pub mod Taken

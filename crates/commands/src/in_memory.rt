@@ -1,16 +1,20 @@
 //! A run over texts in memory.
 
-ghost use Rattle.std.specs.Prelude.{◌≡◌, [], Some};
+ghost use Rattle.std.specs.Prelude.{◌≡◌, [], ℕ, List, IfOk};
 ghost use Rattle.collector.specs.Watching.{inner_of};
-ghost use Rattle.commands.specs.Readings.{RunsOver};
+ghost use Rattle.query_answers.specs.Runs.{IsRun};
+ghost use Rattle.commands.specs.Taken.{HasTaken};
 
+use crate::intake::{Intake, lines_fault, take_lines, taken_epochs};
 use crate::reading::read_query;
 use crate::run_options::RunOptions;
-use crate::running::answer;
+use crate::running::{answer_epochs, graph_of_text};
 use crate::streams::Streams;
 use collector::Watched;
 use command_line::Workers;
+use compile::input_fault;
 use diagnostics::{Fault, Texts};
+use driver::law_inputs;
 use execution::{NoGate, Watcher};
 use query_answers::Answering;
 use std::alloc::Global;
@@ -28,47 +32,51 @@ fn streams_in_memory(alloc: Global) -> Streams<Vec<u8>, Vec<u8>, Vec<u8>>
     }
 }
 
-/// Runs a query text over an input text in memory. What was read of the query, and the input text, are left in `texts`.
-fn run_in_memory<R: Threads + Wait + Sync>(
-    rt: &R,
-    alloc: Global,
-    workers: Workers,
-    query: &[u8],
-    input: Vec<u8>,
-    texts: &mut Texts,
-    streams: &mut Streams<Vec<u8>, Vec<u8>, Vec<u8>>,
-) -> Result<(), Fault>
-    ensures { RunsOver (Some query.now) (Some input.items) (Some (inner_of streams.old.out).items) (Some (inner_of streams.new.out).items) result }
-{
-    let options = RunOptions {
-        workers,
-        gate: &NoGate,
-        stats: None,
-    };
-    match read_query(alloc, &mut Watched::new(query)) {
-        Ok(text) => texts.query = text,
-        Err(fault) => return Err(fault),
-    }
-    texts.input = input;
-    let mut early = Vec::new(alloc);
-    let done = answer(
-        rt,
-        alloc,
-        options,
-        &texts.query,
-        &texts.input,
-        &mut early,
-        streams,
-    );
-    texts.early = early;
-    done
-}
-
 /// The fault of a run in memory: where it couldn't write, memory lacked.
 fn memory_fault(fault: Fault) -> Fault {
     match fault {
         Fault::Write => Fault::NoMemory,
         fault => fault,
+    }
+}
+
+/// The answer to all that was taken. The inputs that are fed in the first epoch alone, where others are fed later, are noted in `texts`.
+fn answer_taken<R: Threads + Wait + Sync>(
+    rt: &R,
+    alloc: Global,
+    intake: Intake,
+    texts: &mut Texts,
+) -> Result<Vec<u8>, Fault>
+    ensures { (query text : List ℕ) → HasTaken intake.graph intake.epochs query text → IfOk result (λ answer. IsRun query text answer.items) }
+{
+    let Intake {
+        graph,
+        workers,
+        epochs,
+        ..
+    } = intake;
+    let epochs = match taken_epochs(alloc, &graph, epochs) {
+        Ok(epochs) => epochs,
+        Err(refusal) => return Err(input_fault(refusal)),
+    };
+    let options = RunOptions {
+        workers,
+        gate: &NoGate,
+        stats: None,
+    };
+    let mut streams = streams_in_memory(alloc);
+    law_inputs(&graph);
+    match answer_epochs(
+        rt,
+        alloc,
+        options,
+        graph,
+        &epochs,
+        &mut texts.early,
+        &mut streams,
+    ) {
+        Ok(()) => Ok(streams.out.into_inner()),
+        Err(fault) => Err(memory_fault(fault)),
     }
 }
 
@@ -87,21 +95,47 @@ impl<'a, R> InMemory<'a, R> {
 
 impl<'a, R: Threads + Wait + Sync> Answering for InMemory<'a, R> {
     ghost use Rattle.std.specs.Thread.{IsSync};
+    ghost use Rattle.commands.specs.Taken.{HasTaken};
 
     ghost is_usable = { IsSync R.row };
 
-    fn answer_text(
+    type Intake = Intake;
+
+    ghost holds = { λ intake query text. HasTaken intake.graph intake.epochs query text };
+
+    fn begin(
         &self,
         alloc: Global,
         workers: Workers,
         query: &[u8],
-        input: Vec<u8>,
         texts: &mut Texts,
-    ) -> Result<Vec<u8>, Fault> {
-        let mut streams = streams_in_memory(alloc);
-        match run_in_memory(self.rt, alloc, workers, query, input, texts, &mut streams) {
-            Ok(()) => Ok(streams.out.into_inner()),
-            Err(fault) => Err(memory_fault(fault)),
+    ) -> Result<Intake, Fault> {
+        texts.query = read_query(alloc, &mut Watched::new(query))?;
+        Ok(Intake {
+            graph: graph_of_text(alloc, &texts.query)?,
+            workers,
+            epochs: None,
+            lines: 0,
+        })
+    }
+
+    fn take(
+        &self,
+        alloc: Global,
+        intake: &mut Intake,
+        lines: &[u8],
+        texts: &mut Texts,
+    ) -> Result<(), Fault> {
+        if lines.is_empty() {
+            return Ok(());
         }
+        match take_lines(alloc, intake, lines) {
+            Ok(()) => Ok(()),
+            Err(refusal) => Err(lines_fault(alloc, refusal, intake.lines, lines, texts)),
+        }
+    }
+
+    fn answer(&self, alloc: Global, intake: Intake, texts: &mut Texts) -> Result<Vec<u8>, Fault> {
+        answer_taken(self.rt, alloc, intake, texts)
     }
 }

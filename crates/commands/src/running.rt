@@ -1,17 +1,19 @@
 //! A run, from bytes to bytes.
 
-ghost use Rattle.std.specs.Prelude.{◌≡◌, ◌<◌, ◌≤◌, length, true, IfOk, IfErr, IsErrOf};
+ghost use Rattle.std.specs.Prelude.{◌≡◌, ◌⊎◌, ◌<◌, ◌≤◌, [], length, true, IfOk, IfErr, IsErrOf};
 ghost use Rattle.graph.specs.Shown.{shown_graph, shown_inputs, shown_names};
 ghost use Rattle.graph.specs.Limits.{max_vertices};
 ghost use Rattle.collector.specs.InputText.{IsReadFrom, IsRefused};
 ghost use Rattle.collector.specs.Watching.{has_failed, inner_of};
 ghost use Rattle.compile.specs.Compiled.{IsCompiled, IsQueryFault};
-ghost use Rattle.compile.specs.Early.{NotesEarly};
+ghost use Rattle.compile.specs.Early.{NotesEarly, early_inputs};
 ghost use Rattle.command_line.specs.Counts.{count_of};
+ghost use Rattle.commands.specs.Answers.{RespondsBy};
 ghost use Rattle.commands.specs.Heeded.{Heeds};
 ghost use Rattle.commands.specs.Readings.{HeedsOver, KeepsInput, KeepsQuery, RunsOnHanded, RunsOver};
-ghost use Rattle.commands.specs.Reported.{ReportsOver};
+ghost use Rattle.commands.specs.Reported.{ReportsFor, ReportsOver};
 ghost use Rattle.commands.specs.Runs.{Ends, IsAfterReading};
+ghost use Rattle.execution.specs.Single.{Fit};
 ghost use Rattle.diagnostics.specs.declared.fault.Fault.TheVariants as fault;
 
 use crate::graph_answer::respond;
@@ -59,6 +61,34 @@ fn epochs_of_text<R: Threads + Sync>(
     read_by_threads(rt, alloc, workers.count(), input, graph.inputs())
 }
 
+/// Answers the query of a graph over epochs that were read for its inputs, and notes which inputs are early.
+pub(crate) fn answer_epochs<
+    R: Threads + Wait + Sync,
+    G: Gate + Sync,
+    W: Write,
+    O: Write + Send + Drop,
+    E: Write,
+>(
+    rt: &R,
+    alloc: Global,
+    options: RunOptions<'_, G>,
+    graph: Graph,
+    epochs: &Epochs,
+    early: &mut Vec<u32>,
+    streams: &mut Streams<W, E, O>,
+) -> Result<(), Fault>
+    requires { Fit epochs.now graph }
+    ensures text { RespondsBy graph epochs.now (W.contents (inner_of streams.old.out)) (W.contents (inner_of streams.new.out)) result }
+    ensures failed { IsErrOf result fault.Write → has_failed streams.new.out ≡ true }
+    ensures several { IsErrOf result fault.NoWorker → 1 < count_of options.entry.workers }
+    ensures whole { count_of options.entry.workers ≡ 1 → IsErrOf result fault.Incomplete → ⊥ }
+    ensures counts { ReportsFor options.entry.stats graph epochs.now (E.contents streams.old.err) (E.contents streams.new.err) }
+    ensures early { (early.new.items ≡ []) ⊎ (early.new.items ≡ early_inputs epochs.now (length (shown_inputs graph))) }
+{
+    *early = noted_early(alloc, epochs, graph.inputs().len());
+    respond(rt, alloc, options, graph, epochs, streams)
+}
+
 /// Answers a query text over an input text, and notes which inputs are early.
 pub(crate) fn answer<
     R: Threads + Wait + Sync,
@@ -93,8 +123,7 @@ pub(crate) fn answer<
         Err(refusal) => return Err(input_fault(refusal)),
     };
     law_inputs(&graph);
-    *early = noted_early(alloc, &epochs, graph.inputs().len());
-    respond(rt, alloc, options, graph, &epochs, streams)
+    answer_epochs(rt, alloc, options, graph, &epochs, early, streams)
 }
 
 /// Reads a query and its input, and writes the answer. Its promise holds if it ends. The gate computes each event; the program's is `NoGate`.

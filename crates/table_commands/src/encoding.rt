@@ -1,6 +1,6 @@
 //! The command `encode`.
 
-ghost use Rattle.std.specs.Prelude.{◌≡◌, ◌⊎◌, IfErr, IfOk, List, None, OnOk, Some, map, option_map, ℕ};
+ghost use Rattle.std.specs.Prelude.{◌≡◌, ◌⊎◌, ◌++◌, IfErr, IfOk, List, None, OnOk, Some, map, option_map, ℕ};
 ghost use Rattle.collector.specs.Watching.{inner_of};
 ghost use Rattle.csv_cells.specs.Texts.{texts_of};
 ghost use Rattle.table_commands.specs.Done.{HasEncoded, IsEncodedBy, WritesInput, marked};
@@ -14,10 +14,10 @@ use schema::Schema;
 use std::alloc::Global;
 use std::io::Write;
 use table_files::{
-    Drafts, Fault, WordFault, begin_dictionary, dictionary_of, grown_text, is_input_twice,
-    needs_dictionary, paths_of, read_files, schema_of, table_fault, write_text, write_with,
+    Drafts, Fault, SourceFiles, WordFault, begin_dictionary, dictionary_of, grown_text,
+    is_input_twice, needs_dictionary, paths_of, schema_of, table_fault, write_text, write_with,
 };
-use tables::encode;
+use tables::{EncodeFault, FileFault, LineSink, encode};
 
 /// The last line of an input that has an end mark.
 const END_MARK: &[u8] = b"end\n";
@@ -40,8 +40,56 @@ struct Files<'s, 'a> {
     end_mark: bool,
 }
 
-/// The input text of the files, which are those of the schema's inputs, in its order. New texts go to the end of the dictionary.
-pub fn input_text<'a, S: Sources<'a>>(
+/// Why there is no input text.
+#[derive(Drop)]
+pub enum InputFault<'a> {
+    Tables(Fault<'a>),
+    /// What takes the lines says why.
+    Stopped,
+}
+
+/// The fault of files that have no lines.
+fn input_fault<'a>(
+    alloc: Global,
+    schema: &Schema,
+    paths: &[&'a str],
+    fault: EncodeFault,
+) -> InputFault<'a> {
+    let path = paths.get(fault.file).copied().unwrap_or("");
+    let fault = match (fault.fault, schema.inputs.get(fault.file)) {
+        (FileFault::Refused(refusal), Some(table)) => table_fault(alloc, path, table, refusal),
+        (FileFault::Read, _) => Fault::Read(path),
+        (FileFault::Stopped, _) => return InputFault::Stopped,
+        (FileFault::Refused(_) | FileFault::Count, _) => Fault::NoMemory,
+    };
+    InputFault::Tables(fault)
+}
+
+/// Appends the input text of the files, which are those of the schema's inputs, in its order. New texts go to the end of the dictionary.
+pub fn append_input<'a, S: Sources<'a>, O: LineSink>(
+    alloc: Global,
+    sources: &S,
+    schema: &Schema,
+    paths: &[&'a str],
+    dictionary: &mut Dictionary,
+    out: &mut O,
+) -> Result<(), InputFault<'a>>
+    ensures input { OnOk result ((input : List ℕ) × IsInputOf (S.content sources.now) schema.now (map (λ s. s.now) paths.now) (texts_of dictionary.new) input
+        × ((first : O) (taken : List ℕ) → O.took first out.old taken → O.took first out.new (taken ++ input))) }
+    ensures numbered { OnOk result (AreNumbered schema.now.constants.items (texts_of dictionary.old) (texts_of dictionary.new)) }
+{
+    if paths.len() != schema.inputs.len() {
+        return Err(InputFault::Tables(Fault::Words(WordFault::Files)));
+    }
+    let files = SourceFiles { sources, paths };
+    match encode(alloc, schema, dictionary, &files, out) {
+        Ok(()) => Ok(()),
+        Err(fault) => Err(input_fault(alloc, schema, paths, fault)),
+    }
+}
+
+/// The input text of the files. New texts go to the end of the dictionary.
+fn input_text<'a, S: Sources<'a>>(
     alloc: Global,
     sources: &S,
     schema: &Schema,
@@ -51,15 +99,11 @@ pub fn input_text<'a, S: Sources<'a>>(
     ensures input { IfOk result (λ out. IsInputOf (S.content sources.now) schema.now (map (λ s. s.now) paths.now) (texts_of dictionary.new) out.items) }
     ensures numbered { OnOk result (AreNumbered schema.now.constants.items (texts_of dictionary.old) (texts_of dictionary.new)) }
 {
-    let texts = read_files(alloc, sources, paths)?;
-    let refused = match encode(alloc, schema, dictionary, texts.as_slice()) {
-        Ok(text) => return Ok(text),
-        Err(refused) => refused,
-    };
-    let path = paths.get(refused.file).copied().unwrap_or("");
-    match schema.inputs.get(refused.file) {
-        Some(table) => Err(table_fault(alloc, path, table, refused.refusal)),
-        None => Err(Fault::NoMemory),
+    let mut text = Vec::new(alloc);
+    match append_input(alloc, sources, schema, paths, dictionary, &mut text) {
+        Ok(()) => Ok(text),
+        Err(InputFault::Tables(fault)) => Err(fault),
+        Err(InputFault::Stopped) => Err(Fault::NoMemory),
     }
 }
 

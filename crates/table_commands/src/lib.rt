@@ -11,7 +11,7 @@ mod listing;
 
 pub use answering::{answer_tables, is_of_tables, refuse, report};
 pub use decoding::output_of;
-pub use encoding::input_text;
+pub use encoding::{InputFault, append_input};
 pub use table_files::{
     DiskDrafts, Draft, Drafts, Fault, WordFault, begin_dictionary, dictionary_of, grown_text,
     is_input_twice, keep_dictionary, paths_of, read_file, schema_of, table_fault, write_with,

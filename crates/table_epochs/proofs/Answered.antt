@@ -1,9 +1,8 @@
 -- Epochs that are answered and written one after another.
-use Rattle.std.proofs.Common.{◌≡◌, ◌≢◌, ◌≤◌, ◌++◌, ◌∙◌, ◌+◌, ℕ, zero, suc, true, List, [], ◌∷◌, Option, None, Some, length, take, refl, sym, ap, append_assoc, inl, inr, subst, arith}
-use Rattle.std.specs.Prelude.{◌⊎◌}
+use Rattle.std.proofs.Common.{◌≡◌, ◌≢◌, ◌++◌, ◌∙◌, ◌+◌, ℕ, zero, suc, true, List, [], ◌∷◌, Option, length, take, refl, sym, ap, append_assoc, inl, inr, subst, arith}
 use Rattle.std.specs.Io.KnownBytes.{Appends}
 use Rattle.std.proofs.lemmas.List.{append-nil, length-append}
-use Rattle.std.proofs.Math.Seq.{take-append-add, take-length}
+use Rattle.std.proofs.Math.Seq.{take-append-add}
 use Rattle.collector.specs.WrittenBytes.{AppendsFront}
 use Rattle.collector.proofs.Writes.{Appends-then}
 use Rattle.csv_epochs.specs.declared.epoch.Epoch.{Epoch}

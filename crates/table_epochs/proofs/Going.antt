@@ -1,6 +1,6 @@
 -- A text of which some was taken, and what was written of it.
-use Rattle.std.proofs.Common.{◌≡◌, ◌≢◌, ◌<◌, ◌++◌, ◌∙◌, ◌+◌, ℕ, suc, true, List, [], ◌∷◌, Option, None, Some, drop, get_or, length, take, refl, sym, ap, append_assoc, inl, inr, subst}
-use Rattle.std.specs.Prelude.{◌⊎◌, IfSome}
+use Rattle.std.proofs.Common.{◌≡◌, ◌≢◌, ◌<◌, ◌++◌, ◌∙◌, ℕ, suc, true, List, [], ◌∷◌, Option, None, Some, drop, get_or, length, take, refl, sym, ap, append_assoc, inl, inr, subst}
+use Rattle.std.specs.Prelude.{◌⊎◌}
 use Rattle.std.specs.Io.KnownBytes.{Appends, Consumes, IsAtEnd}
 use Rattle.std.proofs.lemmas.List.{append-nil, take-append-drop}
 use Rattle.std.proofs.Math.Seq.{take-suc}
@@ -16,7 +16,7 @@ use Rattle.table_queries.specs.declared.fault.RunFault.{RunFault}
 use Rattle.table_queries.specs.declared.fault.RunFault.TheVariants.{Tables}
 use Rattle.tables.specs.Answers.{header_of}
 use Rattle.tables.specs.Files.{csv_text}
-use Rattle.table_epochs.specs.Followed.{AreAnswered, BeginsAs, Followed, FollowsAll, FollowsPart, IsAnswered, IsStart, Reached}
+use Rattle.table_epochs.specs.Followed.{BeginsAs, Followed, FollowsAll, FollowsPart, IsStart, Reached}
 use Rattle.table_epochs.specs.Going.{BreaksIn, BreaksOff, HasBroken, HasTaken, HasWritten, IsGoing, WritesEpoch}
 use Rattle.table_epochs.proofs.Answered.{answered-none, broken-here, broken-push, front-file, whole-file, written-push}
 

@@ -1,6 +1,5 @@
 -- What stays while a file is followed, and an epoch's answer.
-use Rattle.std.proofs.Common.{◌≡◌, ◌++◌, ◌∙◌, ℕ, zero, suc, true, List, [], ◌∷◌, Option, set, refl, sym, ap, append_assoc, subst}
-use Rattle.std.specs.Io.KnownBytes.{Appends}
+use Rattle.std.proofs.Common.{◌≡◌, ◌++◌, ◌∙◌, ℕ, zero, suc, true, List, [], ◌∷◌, set, refl, sym, ap}
 use Rattle.csv_cells.specs.Texts.{Grows}
 use Rattle.csv_epochs.specs.Epochs.{cell_of}
 use Rattle.csv_epochs.specs.declared.epoch.Epoch.{Epoch}
@@ -9,7 +8,7 @@ use Rattle.tables.specs.Files.{csv_text}
 use Rattle.tables.specs.Inputs.{IsInput}
 use Rattle.tables.specs.Tables.{IsLate}
 use Rattle.table_epochs.specs.Followed.{Followed, IsAnswered, IsValue, Reached, csv_file}
-use Rattle.table_epochs.specs.Going.{HasHeader, IsFileUnder, Keeps, bytes_for, followed_by}
+use Rattle.table_epochs.specs.Going.{HasHeader, IsFileUnder, Keeps}
 use Rattle.table_epochs.specs.declared.epoch_answer.Following.{Following}
 use Rattle.table_epochs.proofs.Answered.{csv-append}
 

@@ -1,5 +1,5 @@
 -- How far following is.
-use Rattle.std.specs.Prelude.{◌≡◌, ◌⊎◌, ◌++◌, ℕ, zero, suc, true, List, [], ◌∷◌, Option, map, slice_set}
+use Rattle.std.specs.Prelude.{◌≡◌, ◌++◌, ℕ, zero, suc, true, List, [], ◌∷◌, Option, map, slice_set}
 use Rattle.std.specs.Io.KnownBytes.{Appends}
 use Rattle.collector.specs.WrittenBytes.{AppendsFront}
 use Rattle.query_answers.specs.Runs.{read_part}
@@ -14,7 +14,7 @@ use Rattle.table_queries.specs.declared.fault.RunFault.{RunFault}
 use Rattle.table_queries.specs.declared.fault.RunFault.TheVariants.{Tables}
 use Rattle.tables.specs.Answers.{IsDecoded, header_of}
 use Rattle.tables.specs.Files.{csv_text}
-use Rattle.table_epochs.specs.Followed.{AreAnswered, Followed, IsAnswered, IsNumberedAs, IsStart, Reached, WritesFirst, csv_file}
+use Rattle.table_epochs.specs.Followed.{AreAnswered, Followed, IsAnswered, IsNumberedAs, Reached, WritesFirst, csv_file}
 use Rattle.table_epochs.specs.declared.epoch_answer.Following.{Following}
 
 -- what is followed; the file that arrives is empty

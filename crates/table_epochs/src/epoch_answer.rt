@@ -11,11 +11,11 @@ use crate::numbering::numbered;
 use csv_cells::{Column, Dictionary, read_cell};
 use csv_epochs::Epoch;
 use diagnostics::{Fault, Texts};
-use query_answers::Answering;
+use query_answers::{Answering, answer_text};
 use std::alloc::{AllocError, Global};
 use table_commands::table_fault;
 use table_queries::{Job, RunFault};
-use tables::{EncodeRefusal, TableRefusal, decode, encode};
+use tables::{EncodeRefusal, TableRefusal, decode, encode_texts};
 
 /// What an answer is called where it is refused.
 const ANSWER: &str = "answer";
@@ -130,13 +130,13 @@ fn file_of<'a, A: Answering>(
     job: &Job<'_, 'a>,
     number: u64,
     dictionary: &Dictionary,
-    input: Vec<u8>,
+    input: &[u8],
     texts: &mut Texts,
 ) -> Result<Vec<u8>, RunFault<'a>>
     requires { A.is_usable }
-    ensures { IfOk result (λ file. IsFileUnder job.now.table.now job.now.query.now number (texts_of dictionary.now) input.items file.items) }
+    ensures { IfOk result (λ file. IsFileUnder job.now.table.now job.now.query.now number (texts_of dictionary.now) input.now file.items) }
 {
-    let answer = engine.answer_text(alloc, job.workers, job.query, input, texts)?;
+    let answer = answer_text(engine, alloc, job.workers, job.query, input, texts)?;
     let text = numbered(alloc, number, answer.as_slice())?;
     match decode(alloc, job.table, true, dictionary, text.as_slice()) {
         Ok(file) => Ok(file),
@@ -188,7 +188,7 @@ pub fn answer_epoch<'a, A: Answering>(
     let place = following.stream.place;
     put_text(&mut following.files, place, epoch.text);
     let files = following.files.as_slice();
-    let input = match encode(alloc, job.schema, &mut following.dictionary, files) {
+    let input = match encode_texts(alloc, job.schema, &mut following.dictionary, files) {
         Ok(input) => input,
         Err(refused) => return Err(files_fault(alloc, &job, place, lines, refused)),
     };
@@ -200,7 +200,7 @@ pub fn answer_epoch<'a, A: Answering>(
         &job,
         number,
         &following.dictionary,
-        input,
+        input.as_slice(),
         texts,
     )
 }

@@ -18,7 +18,7 @@ use query_answers::Answering;
 use std::alloc::Global;
 use std::io::{Read, Write};
 use table_queries::RunFault;
-use tables::{EncodeRefusal, TableRefusal, encode};
+use tables::{EncodeRefusal, TableRefusal, encode_texts};
 
 /// The greatest number of bytes that are read of a file.
 const MAX_BYTES: u64 = 18_446_744_073_709_551_614;
@@ -220,7 +220,7 @@ pub fn check_files<'a>(
     let place = following.stream.place;
     put_text(&mut following.files, place, header);
     let files = following.files.as_slice();
-    match encode(
+    match encode_texts(
         alloc,
         following.job.schema,
         &mut following.dictionary,

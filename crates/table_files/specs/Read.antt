@@ -1,13 +1,10 @@
 -- What is read of the texts of a command.
-use Rattle.std.specs.Prelude.{◌≡◌, ◌⊎◌, ℕ, List, [], ◌∷◌, ◌++◌, Bool, true, false, Contains, Option, IfSome}
+use Rattle.std.specs.Prelude.{◌≡◌, ◌⊎◌, ℕ, List, [], ◌∷◌, ◌++◌, Bool, true, false, Contains, Option}
 use Rattle.schema.specs.Text.{IsSchemaText}
 use Rattle.schema.specs.declared.tables.Schema.{Schema}
 use Rattle.schema.specs.declared.tables.Table.{Table}
 use Rattle.tables.specs.Tables.{IsReadDictionary}
-
--- these are the bytes of a text, where they are known
-abbrev pub IsKnownAs : (known : Option (List ℕ)) → (bytes : List ℕ) → Type 0
-IsKnownAs known bytes = IfSome known (λ b. bytes ≡ b)
+pub use Rattle.tables.specs.Inputs.{IsKnownAs}
 
 -- these are the bytes of the texts of these names
 unfoldable pub AreTexts : (known : List ℕ → Option (List ℕ)) → (names texts : List (List ℕ)) → Type 0

@@ -3,7 +3,7 @@
 ghost use Rattle.std.specs.Prelude.{◌≡◌, ◌++◌, ◌∷◌, Contains, IfOk, IfSome, map};
 ghost use Rattle.collector.specs.Watching.{inner_of};
 ghost use Rattle.csv_cells.specs.Texts.{texts_of};
-ghost use Rattle.table_files.specs.Read.{AreNamed, AreTexts, IsKnownAs, IsOpenedAs, IsReadSchema};
+ghost use Rattle.table_files.specs.Read.{AreNamed, IsKnownAs, IsOpenedAs, IsReadSchema};
 ghost use Rattle.tables.specs.Tables.{IsReadDictionary};
 
 use collector::{ReadFault, Sources, Watched, open_named, read_all};
@@ -180,21 +180,6 @@ pub fn paths_of<'a>(
         }
     }
     Ok(paths)
-}
-
-/// The texts of the files, one after another.
-pub fn read_files<'a, S: Sources<'a>>(
-    alloc: Global,
-    sources: &S,
-    paths: &[&'a str],
-) -> Result<Vec<Vec<u8>>, Fault<'a>>
-    ensures { IfOk result (λ texts. AreTexts (S.content sources.now) (map (λ s. s.now) paths.now) (map (λ v. v.items) texts.items)) }
-{
-    let mut texts = Vec::new(alloc);
-    for i in 0..paths.len() {
-        texts.push(read_file(alloc, sources, paths[i])?)?;
-    }
-    Ok(texts)
 }
 
 /// How many of the paths are standard input.

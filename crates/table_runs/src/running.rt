@@ -1,10 +1,14 @@
 //! The run itself, from the texts of the system to what is written.
 
-ghost use Rattle.std.specs.Prelude.{IfErr, IfOk, None, OnOk, Some, map, option_map};
+ghost use Rattle.std.specs.Prelude.{IfErr, IfOk, List, None, OnOk, Some, map, option_map, ℕ};
 ghost use Rattle.collector.specs.Watching.{inner_of};
 ghost use Rattle.csv_cells.specs.Texts.{texts_of};
+ghost use Rattle.query_answers.specs.Runs.{IsRun, read_part};
+ghost use Rattle.table_commands.specs.Read.{IsInputOf};
+ghost use Rattle.tables.specs.Inputs.{AreNumbered};
 ghost use Rattle.table_runs.specs.Runs.{Fails, IsAnswerBy, IsAnswerFile, IsDone, WritesAnswer};
 
+use crate::intake::TextIntake;
 use collector::{Sources, Watched, put};
 use csv_cells::Dictionary;
 use diagnostics::Texts;
@@ -13,13 +17,39 @@ use schema_words::TableRun;
 use std::alloc::Global;
 use std::io::Write;
 use table_commands::{
-    Drafts, begin_dictionary, dictionary_of, grown_text, input_text, table_fault, write_with,
+    Drafts, InputFault, append_input, begin_dictionary, dictionary_of, grown_text, table_fault,
+    write_with,
 };
 use table_queries::{Job, RunFault, asked_output, begin_run};
 use tables::{decode, has_epochs};
 
 /// What an answer is called where it is refused.
 const ANSWER: &str = "answer";
+
+/// The answer to the input text of the files, by the dictionary as it is then.
+fn answer_of_files<'a, A: Answering, S: Sources<'a>>(
+    engine: &A,
+    alloc: Global,
+    sources: &S,
+    job: &Job<'_, 'a>,
+    dictionary: &mut Dictionary,
+    texts: &mut Texts,
+) -> Result<Vec<u8>, RunFault<'a>>
+    requires { A.is_usable }
+    ensures answered { IfOk result (λ answer. (input : List ℕ) × IsInputOf (S.content sources.now) job.now.schema.now (map (λ s. s.now) job.now.paths.now) (texts_of dictionary.new) input
+        × IsRun (read_part job.now.query.now) input answer.items) }
+    ensures numbered { OnOk result (AreNumbered job.now.schema.now.constants.items (texts_of dictionary.old) (texts_of dictionary.new)) }
+{
+    let intake = engine.begin(alloc, job.workers, job.query, texts)?;
+    let mut input = TextIntake::new(engine, alloc, intake);
+    match append_input(
+        alloc, sources, job.schema, job.paths, dictionary, &mut input,
+    ) {
+        Ok(()) => Ok(input.answer(texts)?),
+        Err(InputFault::Tables(fault)) => Err(RunFault::Tables(fault)),
+        Err(InputFault::Stopped) => Err(RunFault::Run(input.into_fault(texts))),
+    }
+}
 
 /// The CSV file of the answer, and the dictionary as it is then.
 fn answer_file<'a, A: Answering, S: Sources<'a>>(
@@ -34,8 +64,7 @@ fn answer_file<'a, A: Answering, S: Sources<'a>>(
     ensures { IfOk result (λ file. IsAnswerBy (S.content sources.now) job.now.schema.now job.now.table.now (map (λ s. s.now) job.now.paths.now) job.now.query.now
         (texts_of dictionary.old) file.items) }
 {
-    let input = input_text(alloc, sources, job.schema, job.paths, dictionary)?;
-    let answer = engine.answer_text(alloc, job.workers, job.query, input, texts)?;
+    let answer = answer_of_files(engine, alloc, sources, job, dictionary, texts)?;
     match decode(
         alloc,
         job.table,

@@ -6,6 +6,7 @@ ghost use Rattle.clap.specs.Words.{HasMatchesOf, all_of, app_of, first_of, found
 ghost use Rattle.clap.specs.declared.builder.Command.TheViews.{out-Command as fields_of};
 ghost use Rattle.table_words.specs.Line.{Asks, HoldsAt, IsFlag, decode_app, encode_app, flag_rule, kinds_app, line_app, named_rule, word_rule, words_rule};
 
+use clap::error::ErrorKind;
 use clap::{Arg, ArgAction, ArgMatches, Command, Error};
 use std::alloc::{AllocError, Global};
 
@@ -294,7 +295,10 @@ pub fn matches_of<'a>(
 {
     match line?.try_get_matches_from(words) {
         Ok(found) => Ok(found),
-        Err(error) => Err(LineError::Words(error)),
+        Err(error) => match error.kind() {
+            ErrorKind::OutOfMemory => Err(LineError::NoMemory),
+            _ => Err(LineError::Words(error)),
+        },
     }
 }
 

@@ -1,9 +1,10 @@
 pub mod Lines
 pub mod Cells
-pub mod Records
+pub mod Readers
 pub mod Again
 pub mod Joined
-pub mod Marks
 pub mod Faulty
+pub mod Blocks
+pub mod TextFiles
 pub mod NoLines
 pub mod NoInput

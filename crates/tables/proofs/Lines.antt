@@ -4,13 +4,9 @@ use Rattle.std.proofs.lemmas.List.{append-nil, append_assoc}
 use Rattle.csv_cells.specs.Encoded.{line_text}
 use Rattle.schema.specs.declared.tables.Epochs.{Epochs}
 use Rattle.schema.specs.declared.tables.Epochs.TheVariants.{One, By, Every}
+use Rattle.tables.specs.Blocks.{last_epoch}
 use Rattle.tables.specs.Tables.{AreInOrder, IsLate, epoch_of, head_text, rows_text}
-use Rattle.tables.specs.declared.rows.Target.{Target}
-
--- the epoch of the last record, after one of that epoch
-unfoldable pub last_epoch : Target → Option ℤ → List (List ℤ) → Option ℤ
-last_epoch target last [] = last
-last_epoch target last (zs ∷ rest) = last_epoch target (epoch_of target.epochs zs) rest
+use Rattle.tables.specs.declared.records.Target.{Target}
 
 -- the lines of a record
 abbrev pub row_text : Target → Option ℤ → List ℤ → List ℕ

@@ -120,7 +120,7 @@ record Around (columns : List Column) (epochs : Epochs) (texts others : List (Li
   pub ordered : AreInOrder epochs None all
 
 no-record : (columns : List Column) (epochs : Epochs) (texts others : List (List ℕ)) (before : List (List ℤ)) (cells : List (List ℕ)) (fault : Fault)
-    → AreReadable columns → HasOrder columns epochs → Around columns epochs texts others cells before → IsRecordFault columns epochs texts before cells fault → (zs : List ℤ) → Spells columns others cells zs → ⊥
+    → AreReadable columns → HasOrder columns epochs → Around columns epochs texts others cells before → IsRecordFault columns epochs texts None before cells fault → (zs : List ℤ) → Spells columns others cells zs → ⊥
 no-record columns epochs texts others before cells Length ok order around why zs s = why s.wide
 no-record columns epochs texts others before cells (Cell i) ok order around why zs s =
     let column : Column = get_or columns i plain in
@@ -138,7 +138,7 @@ no-record columns epochs texts others before cells Answer ok order around why zs
 pub no-lines : (table : Table) (shared file : List ℕ) (texts others : List (List ℕ)) (lines : List ℕ) (fault : Fault) (line : ℕ) → AreReadable table.columns.items → HasOrder table.columns.items table.epochs
     → IsRefusedFile table file texts (At fault line) → IsEncodedFile table shared file others lines → ⊥
 no-lines table shared file texts others lines fault line ok order (inl r) h = not-strict (strip_bom file) (record { fault = r.0; line = line }) r.2 h.strict
-no-lines table shared file texts others lines fault line ok order (inr (strict, inl r)) h = r.1 (has-header (names_of table) (strip_bom file) h.encoded.rows h.encoded.read)
+no-lines table shared file texts others lines fault line ok order (inr (strict, inl r)) h = r.1 (has-header (names_of table) file h.encoded.rows h.encoded.read)
 no-lines table shared file texts others lines fault line ok order (inr (strict, inr r)) h =
     let read = h.encoded.read in
     let all = all-begin _ _ (names_of table ∷ r.rows) r.cells r.read.0 r.read.1 (names_of table ∷ h.encoded.rows) read.0 read.1 r.read.2 read.2 read.3 in

@@ -1,5 +1,5 @@
 -- The input text of a schema's tables.
-use Rattle.std.specs.Prelude.{◌≡◌, ◌≢◌, ◌⊎◌, ℕ, suc, List, [], ◌∷◌, ◌++◌, Bool, true, false, Some, codes, get_or, slice_get, ⊤}
+use Rattle.std.specs.Prelude.{◌≡◌, ◌≢◌, ◌⊎◌, ℕ, suc, List, [], ◌∷◌, ◌++◌, Bool, true, false, IfSome, Option, Some, codes, get_or, slice_get, ⊤}
 use Rattle.std.specs.List.{list_any}
 use Rattle.csv.specs.Reading.{strip_bom}
 use Rattle.csv_cells.specs.Texts.{Grows, HasText, IsAdded}
@@ -11,11 +11,14 @@ use Rattle.schema.specs.declared.tables.Constant.{Constant}
 use Rattle.schema.specs.declared.tables.Schema.{Schema}
 use Rattle.schema.specs.declared.tables.Table.{Table}
 use Rattle.tables.specs.Tables.{AreEncoded, AreRefused, IsRefusedText}
+use Rattle.tables.specs.declared.refusal.EncodeFault.{EncodeFault}
 use Rattle.tables.specs.declared.refusal.EncodeRefusal.{EncodeRefusal}
+use Rattle.tables.specs.declared.refusal.FileFault.{FileFault}
+use Rattle.tables.specs.declared.refusal.FileFault.TheVariants.{Refused, Read, Count, Stopped}
 use Rattle.tables.specs.declared.refusal.RecordFault.TheVariants.{Fault as InRecord}
 use Rattle.csv_answers.specs.declared.refusal.TableRefusal.{TableRefusal}
 use Rattle.csv_answers.specs.declared.refusal.TableRefusal.TheVariants.{At, NoMemory}
-use Rattle.tables.specs.declared.rows.Target.{Target}
+use Rattle.tables.specs.declared.records.Target.{Target}
 
 -- whether a table has an epoch for each value of a column
 abbrev pub has_own : Epochs → Bool
@@ -30,7 +33,7 @@ pub record IsEncodedFile (table : Table) (shared file : List ℕ) (texts : List 
   pub epochs : target.epochs ≡ table.epochs
   pub named : target.name.now ≡ table.name.items
   pub joined : target.shared.now ≡ shared
-  pub encoded : AreEncoded (names_of table) table.columns.items target (strip_bom file) texts lines
+  pub encoded : AreEncoded (names_of table) table.columns.items target file texts lines
 
 -- the lines of a table, if it is one of those with epochs of their own, or of the others
 abbrev pub IsPart : (own : Bool) → Table → (shared file : List ℕ) → (texts : List (List ℕ)) → (lines : List ℕ) → Type 0
@@ -51,10 +54,49 @@ IsInput schema files texts out = (shared : List ℕ) × AreJoined false [] files
 -- why a table's file is refused: its text isn't strict, or has no lines
 abbrev pub IsRefusedFile : Table → (file : List ℕ) → (texts : List (List ℕ)) → TableRefusal → Type 0
 IsRefusedFile table file texts (At fault line) = IsRefusedText (strip_bom file) fault line
-    ⊎ (IsStrict (strip_bom file) × AreRefused (names_of table) table.columns.items table.epochs (strip_bom file) texts (InRecord fault))
+    ⊎ (IsStrict (strip_bom file) × AreRefused (names_of table) table.columns.items table.epochs file texts (InRecord fault))
 IsRefusedFile table file texts NoMemory = ⊤
 
--- why there is no input text: the file of one table is refused, or memory lacks
+-- these are the bytes of a text, where they are known
+abbrev pub IsKnownAs : (known : Option (List ℕ)) → (bytes : List ℕ) → Type 0
+IsKnownAs known bytes = IfSome known (λ b. bytes ≡ b)
+
+-- the bytes of files in memory are known; one that isn't there is empty
+abbrev pub held : (files : List (List ℕ)) → (place : ℕ) → Option (List ℕ)
+held files place = Some (get_or files place [])
+
+-- these are the files of the tables, from that place on
+unfoldable pub AreFiles : (known : ℕ → Option (List ℕ)) → (files : List (List ℕ)) → (place : ℕ) → List Table → Type 0
+AreFiles known files place [] = ⊤
+AreFiles known files place (table ∷ tables) = IsKnownAs (known place) (get_or files place []) × AreFiles known files (suc place) tables
+
+-- the files of those tables are in the places of others
+unfoldable pub Completes : (own : Bool) → (known : ℕ → Option (List ℕ)) → (old new : List (List ℕ)) → (place : ℕ) → List Table → Type 0
+Completes own known old new place [] = ⊤
+Completes own known old new place (table ∷ tables) =
+    (((has_own table.epochs ≡ own) × IsKnownAs (known place) (get_or new place [])) ⊎ ((has_own table.epochs ≢ own) × (get_or new place [] ≡ get_or old place [])))
+    × Completes own known old new (suc place) tables
+
+-- why a file whose bytes may be known has no lines: it is refused, or can't be read to its end, or what takes the lines stopped
+abbrev pub IsFileFault : Table → (known : Option (List ℕ)) → (texts : List (List ℕ)) → FileFault → Type 0
+IsFileFault table known texts (Refused refusal) = (file : List ℕ) × IsKnownAs known file × IsRefusedFile table file texts refusal
+IsFileFault table known texts Read = ⊤
+IsFileFault table known texts Count = ⊤
+IsFileFault table known texts Stopped = ⊤
+
+-- the fault is of no file
+abbrev pub NeedsNoFile : FileFault → Type 0
+NeedsNoFile (Refused NoMemory) = ⊤
+NeedsNoFile (Refused (At fault line)) = ⊥
+NeedsNoFile Read = ⊥
+NeedsNoFile Count = ⊥
+NeedsNoFile Stopped = ⊤
+
+-- why there is no input text: the file of one table has no lines, or memory lacks, or what takes the lines stopped
+abbrev pub IsInputFault : List Table → (known : ℕ → Option (List ℕ)) → (texts : List (List ℕ)) → EncodeFault → Type 0
+IsInputFault tables known texts f = ((table : Table) × (slice_get tables f.file ≡ Some table) × IsFileFault table (known f.file) texts f.fault) ⊎ NeedsNoFile f.fault
+
+-- the same of files in memory: the file of one table is refused, or memory lacks
 abbrev pub IsRefusedInput : List Table → (files texts : List (List ℕ)) → EncodeRefusal → Type 0
 IsRefusedInput tables files texts r =
     ((table : Table) × (slice_get tables r.file ≡ Some table) × IsRefusedFile table (get_or files r.file []) texts r.refusal) ⊎ (r.refusal ≡ NoMemory)

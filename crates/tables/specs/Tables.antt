@@ -21,11 +21,11 @@ use Rattle.schema.specs.declared.tables.Epochs.TheVariants.{One, By, Every}
 use Rattle.csv_answers.specs.declared.refusal.Fault.{Fault}
 use Rattle.csv_answers.specs.declared.refusal.Fault.TheVariants.{Text, Header, Length, Cell, Order, Dictionary, Answer}
 use Rattle.tables.specs.declared.refusal.RecordFault.{RecordFault}
-use Rattle.tables.specs.declared.refusal.RecordFault.TheVariants.{NoMemory, Fault as InRecord}
+use Rattle.tables.specs.declared.refusal.RecordFault.TheVariants.{NoMemory, Stopped, Fault as InRecord}
 use Rattle.csv_answers.specs.declared.refusal.TableRefusal.{TableRefusal}
 use Rattle.csv_answers.specs.declared.refusal.TableRefusal.TheVariants as table
 use Rattle.tables.specs.Dictionaries.{dictionary_rows}
-use Rattle.tables.specs.declared.rows.Target.{Target}
+use Rattle.tables.specs.declared.records.Target.{Target}
 
 -- the value that says the epoch of a record, where the table has an epoch for each
 abbrev pub epoch_of : Epochs → List ℤ → Option ℤ
@@ -70,10 +70,11 @@ IsUnderHeader names text rows = AreRecords default_config st.StartRecord (strip_
 abbrev pub HasHeader : (names : List (List ℕ)) → (text : List ℕ) → Type 0
 HasHeader names text = option_map (λ p. p.0) (next_record default_config st.StartRecord [] [] (strip_bom text)) ≡ Some names
 
--- a header row is refused only if it has other cells, or for lack of memory
+-- a header row is refused only if it has other cells, or memory lacks, or its lines aren't taken
 abbrev pub IsRefusedHeader : (names : List (List ℕ)) → (text : List ℕ) → RecordFault → Type 0
 IsRefusedHeader names text (InRecord fault) = (fault ≡ Header) × ¬ HasHeader names text
 IsRefusedHeader names text NoMemory = ⊤
+IsRefusedHeader names text Stopped = ⊤
 
 -- a reader of the text has read these records
 pub record HasRead (text : List ℕ) (rows : List (List (List ℕ))) (reader : Reader (Bor (List ℕ))) : Type 0 where
@@ -99,16 +100,16 @@ fault_of_row row.Length = InRecord Length
 fault_of_row (row.Cell i) = InRecord (Cell i)
 fault_of_row row.NoMemory = NoMemory
 
--- why a record has no lines, after those of these numbers: no numbers stand for its cells, or it is late
-abbrev pub IsRecordFault : List Column → Epochs → (texts : List (List ℕ)) → (before : List (List ℤ)) → (cells : List (List ℕ)) → Fault → Type 0
-IsRecordFault columns epochs texts before cells Length = IsRefusedRow columns texts cells row.Length
-IsRecordFault columns epochs texts before cells (Cell i) = IsRefusedRow columns texts cells (row.Cell i)
-IsRecordFault columns epochs texts before cells (Order i) =
-    (epochs ≡ By i) × (numbers : List ℤ) × Spells columns texts cells numbers × ¬ AreInOrder epochs None (before ++ numbers ∷ [])
-IsRecordFault columns epochs texts before cells (Text fault) = ⊥
-IsRecordFault columns epochs texts before cells Header = ⊥
-IsRecordFault columns epochs texts before cells Dictionary = ⊥
-IsRecordFault columns epochs texts before cells Answer = ⊥
+-- why a record has no lines, after those of these numbers, which come after one of that epoch: no numbers stand for its cells, or it is late
+abbrev pub IsRecordFault : List Column → Epochs → (texts : List (List ℕ)) → (last : Option ℤ) → (before : List (List ℤ)) → (cells : List (List ℕ)) → Fault → Type 0
+IsRecordFault columns epochs texts last before cells Length = IsRefusedRow columns texts cells row.Length
+IsRecordFault columns epochs texts last before cells (Cell i) = IsRefusedRow columns texts cells (row.Cell i)
+IsRecordFault columns epochs texts last before cells (Order i) =
+    (epochs ≡ By i) × (numbers : List ℤ) × Spells columns texts cells numbers × ¬ AreInOrder epochs last (before ++ numbers ∷ [])
+IsRecordFault columns epochs texts last before cells (Text fault) = ⊥
+IsRecordFault columns epochs texts last before cells Header = ⊥
+IsRecordFault columns epochs texts last before cells Dictionary = ⊥
+IsRecordFault columns epochs texts last before cells Answer = ⊥
 
 -- the text begins with these records
 abbrev pub BeginsWith : (text : List ℕ) → (rows : List (List (List ℕ))) → Type 0
@@ -122,13 +123,14 @@ pub record IsFaultyRecord (names : List (List ℕ)) (columns : List Column) (epo
   pub read : BeginsWith source (names ∷ (rows ++ cells ∷ []))
   pub spelled : SpellsAll columns texts rows numbers
   pub ordered : AreInOrder epochs None numbers
-  pub why : IsRecordFault columns epochs texts numbers cells fault
+  pub why : IsRecordFault columns epochs texts None numbers cells fault
 
 -- why a text has no lines: by its header row, or by a record
 abbrev pub AreRefused : (names : List (List ℕ)) → List Column → Epochs → (source : List ℕ) → (texts : List (List ℕ)) → RecordFault → Type 0
 AreRefused names columns epochs source texts (InRecord fault) =
     ((fault ≡ Header) × ¬ HasHeader names source) ⊎ IsFaultyRecord names columns epochs source texts fault
 AreRefused names columns epochs source texts NoMemory = ⊤
+AreRefused names columns epochs source texts Stopped = ⊤
 
 -- the text isn't strict
 abbrev pub IsRefusedText : (text : List ℕ) → Fault → (line : ℕ) → Type 0

@@ -67,7 +67,7 @@ fn read_names(alloc: Global, text: &[u8], reader: &mut Reader<&[u8]>) -> Result<
     match read_header(alloc, reader, names.as_slice()) {
         Ok(()) => {}
         Err(RecordFault::Fault(fault)) => return Err(TableRefusal::At { fault, line: 1 }),
-        Err(RecordFault::NoMemory) => return Err(TableRefusal::NoMemory),
+        Err(RecordFault::NoMemory | RecordFault::Stopped) => return Err(TableRefusal::NoMemory),
     }
     Ok(())
 }

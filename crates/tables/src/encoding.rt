@@ -5,76 +5,54 @@ ghost use Rattle.schema.specs.declared.tables.Schema.{Schema};
 ghost use Rattle.schema.specs.declared.tables.Table.{Table};
 ghost use Rattle.schema.specs.Schemas.{IsSchema};
 ghost use Rattle.csv_answers.specs.declared.refusal.Fault.{Fault};
-ghost use Rattle.std.specs.Prelude.{◌≡◌, ◌++◌, ◌∷◌, [], IfErr, IfOk, List, OnOk, Some, codes, get_or, slice_get, map, ℕ};
+ghost use Rattle.std.specs.Prelude.{◌≡◌, ◌++◌, ◌∷◌, [], IfErr, IfOk, List, OnOk, Option, Some, codes, get_or, length, slice_get, map, ℕ};
 ghost use Rattle.std.specs.List.{list_any};
-ghost use Rattle.csv.specs.Reading.{strip_bom};
 ghost use Rattle.csv_cells.specs.Texts.{Grows, texts_of};
-ghost use Rattle.tables.specs.Inputs.{AreAdded, AreJoined, AreNew, AreNumbered, IsEncodedFile, IsInput, IsPart, IsRefusedFile, IsRefusedInput, has_own};
+ghost use Rattle.tables.specs.Inputs.{AreAdded, AreFiles, AreJoined, AreNew, AreNumbered, Completes, IsInput, NeedsNoFile, IsInputFault, IsRefusedFile, IsRefusedInput, has_own, held};
 ghost use Rattle.csv_answers.specs.declared.refusal.TableRefusal.TheVariants as refusal;
 
-use crate::refusal::{EncodeRefusal, RecordFault};
-use crate::rows::{Target, encode_rows};
-use csv_answers::{Fault, TableRefusal};
+use crate::file::encode_file;
+use crate::line_sink::{LineSink, SinkFault};
+use crate::refusal::{EncodeFault, EncodeRefusal, FileFault};
+use csv_answers::TableRefusal;
 use csv_cells::Dictionary;
-use csv_strict::{check_text, line_of_record};
 use schema::{Constant, Epochs, Schema, Table};
 use std::alloc::{AllocError, Global};
+use std::io::Read;
 
-/// What a byte order mark is, which may stand before a text.
-const MARK: &[u8] = b"\xEF\xBB\xBF";
+/// The files of a schema's inputs.
+pub trait TableFiles {
+    /// A file, as it is read.
+    type Reader: Read + Drop;
 
-/// A text without the byte order mark that may stand before it.
-fn without_mark(file: &[u8]) -> &[u8]
-    ensures { result.now ≡ strip_bom file.now }
-{
-    match file.strip_prefix(MARK) {
-        Some(text) => text,
-        None => file,
-    }
+    // the bytes of the file of the input at that place, where they are known
+    ghost content: { Self → ℕ → Option (List ℕ) };
+
+    /// The file of the input at that place.
+    fn open(&self, place: usize) -> Self::Reader
+        ensures { Self.Reader.remaining result ≡ content self.now place };
 }
 
-/// Appends the lines of a table's file. A refusal is of its first fault: of its text, its header row, or its records.
-fn encode_table(
-    alloc: Global,
-    table: &Table,
-    shared: &[u8],
-    dictionary: &mut Dictionary,
-    file: &[u8],
-    out: &mut Vec<u8>,
-) -> Result<(), TableRefusal>
-    ensures encoded { OnOk result ((lines : List ℕ) × (out.new.items ≡ out.old.items ++ lines)
-        × IsEncodedFile table.now shared.now file.now (texts_of dictionary.new) lines) }
-    ensures refused { IfErr result (IsRefusedFile table.now file.now (texts_of dictionary.new)) }
-    ensures grows { OnOk result (Grows (texts_of dictionary.old) (texts_of dictionary.new)) }
-{
-    let text = without_mark(file);
-    if let Err(refusal) = check_text(text) {
-        let fault = Fault::Text(refusal.fault);
-        let line = refusal.line;
-        return Err(TableRefusal::At { fault, line });
-    }
-    let target = Target {
-        epochs: table.epochs,
-        name: &table.name,
-        shared,
-    };
-    match encode_rows(
-        alloc,
-        &table.headers,
-        &table.columns,
-        target,
-        dictionary,
-        text,
-        out,
-    ) {
-        Ok(()) => Ok(()),
-        Err(refusal) => match refusal.fault {
-            RecordFault::NoMemory => Err(TableRefusal::NoMemory),
-            RecordFault::Fault(fault) => {
-                let line = line_of_record(text, refusal.count);
-                Err(TableRefusal::At { fault, line })
-            }
-        },
+/// Files in memory, in the inputs' order.
+#[derive(Clone, Copy)]
+pub struct MemoryFiles<'v> {
+    pub texts: &'v [Vec<u8>],
+}
+
+impl<'v> TableFiles for MemoryFiles<'v> {
+    type Reader = &'v [u8];
+
+    ghost use Rattle.std.specs.Prelude.{map};
+    ghost use Rattle.tables.specs.Inputs.{held};
+
+    ghost content = { λ files. held (map (λ v. v.items) files.texts.now) };
+
+    fn open(&self, place: usize) -> &'v [u8] {
+        if place < self.texts.len() {
+            self.texts[place].as_slice()
+        } else {
+            b""
+        }
     }
 }
 
@@ -88,66 +66,30 @@ fn has_own(epochs: Epochs) -> bool
     }
 }
 
-/// Appends the lines of a table, if it is one of those with epochs of their own, or of the others.
-fn encode_part(
+/// Appends the lines of the tables with epochs of their own, or of the others, each from its file.
+fn encode_some<F: TableFiles, O: LineSink>(
     alloc: Global,
-    table: &Table,
+    tables: &[Table],
     own: bool,
     shared: &[u8],
     dictionary: &mut Dictionary,
-    file: &[u8],
-    out: &mut Vec<u8>,
-) -> Result<(), TableRefusal>
-    ensures part { OnOk result ((lines : List ℕ) × (out.new.items ≡ out.old.items ++ lines)
-        × IsPart own table.now shared.now file.now (texts_of dictionary.new) lines) }
-    ensures refused { IfErr result (IsRefusedFile table.now file.now (texts_of dictionary.new)) }
+    files: &F,
+    out: &mut O,
+) -> Result<(), EncodeFault>
+    ensures joined { (before : List (List ℕ)) → length before ≡ length tables.now → OnOk result ((texts : List (List ℕ)) × (lines : List ℕ) × (length texts ≡ length tables.now)
+        × Completes own (F.content files.now) before texts 0 tables.now × AreJoined own shared.now texts (texts_of dictionary.new) 0 tables.now lines
+        × ((first : O) (taken : List ℕ) → O.took first out.old taken → O.took first out.new (taken ++ lines))) }
+    ensures refused { IfErr result (IsInputFault tables.now (F.content files.now) (texts_of dictionary.new)) }
     ensures grows { OnOk result (Grows (texts_of dictionary.old) (texts_of dictionary.new)) }
 {
-    if has_own(table.epochs) != own {
-        return Ok(());
-    }
-    encode_table(alloc, table, shared, dictionary, file, out)
-}
-
-/// The text of a file.
-fn text_of<'a>(files: &'a [Vec<u8>], file: usize) -> &'a [u8]
-    ensures { result.now ≡ get_or (map (λ v. v.items) files.now) file [] }
-{
-    if file < files.len() {
-        files[file].as_slice()
-    } else {
-        b""
-    }
-}
-
-/// Appends the lines of the tables with epochs of their own, or of the others.
-fn encode_some(
-    alloc: Global,
-    schema: &Schema,
-    own: bool,
-    shared: &[u8],
-    dictionary: &mut Dictionary,
-    files: &[Vec<u8>],
-    out: &mut Vec<u8>,
-) -> Result<(), EncodeRefusal>
-    ensures joined { OnOk result ((lines : List ℕ) × (out.new.items ≡ out.old.items ++ lines)
-        × AreJoined own shared.now (map (λ v. v.items) files.now) (texts_of dictionary.new) 0 schema.now.inputs.items lines) }
-    ensures refused { IfErr result (IsRefusedInput schema.now.inputs.items (map (λ v. v.items) files.now) (texts_of dictionary.new)) }
-    ensures grows { OnOk result (Grows (texts_of dictionary.old) (texts_of dictionary.new)) }
-{
-    for file in 0..schema.inputs.len() {
-        let text = text_of(files, file);
-        match encode_part(
-            alloc,
-            &schema.inputs[file],
-            own,
-            shared,
-            dictionary,
-            text,
-            out,
-        ) {
+    for place in 0..tables.len() {
+        let table = &tables[place];
+        if has_own(table.epochs) != own {
+            continue;
+        }
+        match encode_file(alloc, table, shared, dictionary, files.open(place), out) {
             Ok(()) => {}
-            Err(refusal) => return Err(EncodeRefusal { file, refusal }),
+            Err(fault) => return Err(EncodeFault { file: place, fault }),
         }
     }
     Ok(())
@@ -174,18 +116,73 @@ fn number_constants(
     Ok(())
 }
 
-/// Lack of memory, told of the first file.
-fn no_memory() -> EncodeRefusal
-    ensures { result.refusal ≡ refusal.NoMemory }
+/// What stops all files, told of the first.
+fn stopped(fault: SinkFault) -> EncodeFault
+    ensures { NeedsNoFile result.fault }
 {
-    let refusal = TableRefusal::NoMemory;
-    EncodeRefusal { file: 0, refusal }
+    let fault = match fault {
+        SinkFault::NoMemory => FileFault::Refused(TableRefusal::NoMemory),
+        SinkFault::Stopped => FileFault::Stopped,
+    };
+    EncodeFault { file: 0, fault }
 }
 
-/// The input text of the files, one for each input of the schema, in its order. New texts go to the end of the dictionary, the constants first.
+/// Appends the input text of the files. New texts go to the end of the dictionary, the constants first.
 ///
 /// A refusal is of the first file that has a fault, but that those with all their rows in each epoch come first.
-pub fn encode(
+pub fn encode<F: TableFiles, O: LineSink>(
+    alloc: Global,
+    schema: &Schema,
+    dictionary: &mut Dictionary,
+    files: &F,
+    out: &mut O,
+) -> Result<(), EncodeFault>
+    ensures input { OnOk result ((texts : List (List ℕ)) × (input : List ℕ) × (length texts ≡ length schema.now.inputs.items) × AreFiles (F.content files.now) texts 0 schema.now.inputs.items
+        × IsInput schema.now texts (texts_of dictionary.new) input × ((first : O) (taken : List ℕ) → O.took first out.old taken → O.took first out.new (taken ++ input))) }
+    ensures refused { IfErr result (IsInputFault schema.now.inputs.items (F.content files.now) (texts_of dictionary.new)) }
+    ensures grows { OnOk result (Grows (texts_of dictionary.old) (texts_of dictionary.new)) }
+    ensures numbered { OnOk result (AreNumbered schema.now.constants.items (texts_of dictionary.old) (texts_of dictionary.new)) }
+{
+    let tables = schema.inputs.as_slice();
+    if number_constants(alloc, schema.constants.as_slice(), dictionary).is_err() {
+        return Err(stopped(SinkFault::NoMemory));
+    }
+    if !has_epochs(tables) {
+        match out.append(b"epoch\n") {
+            Ok(()) => {}
+            Err(fault) => return Err(stopped(fault)),
+        }
+        encode_some(alloc, tables, false, b"", dictionary, files, out)?;
+        return Ok(());
+    }
+    let mut shared = Vec::new(alloc);
+    encode_some(alloc, tables, false, b"", dictionary, files, &mut shared)?;
+    encode_some(
+        alloc,
+        tables,
+        true,
+        shared.as_slice(),
+        dictionary,
+        files,
+        out,
+    )?;
+    Ok(())
+}
+
+/// The refusal of a file in memory.
+fn refusal_of(fault: EncodeFault) -> EncodeRefusal
+    ensures { (tables : List Table) (files texts : List (List ℕ)) → IsInputFault tables (held files) texts fault → IsRefusedInput tables files texts result }
+{
+    let EncodeFault { file, fault } = fault;
+    let refusal = match fault {
+        FileFault::Refused(refusal) => refusal,
+        FileFault::Read | FileFault::Count | FileFault::Stopped => TableRefusal::NoMemory,
+    };
+    EncodeRefusal { file, refusal }
+}
+
+/// The input text of files in memory, one for each input of the schema, in its order; as `encode` appends it.
+pub fn encode_texts(
     alloc: Global,
     schema: &Schema,
     dictionary: &mut Dictionary,
@@ -196,29 +193,12 @@ pub fn encode(
     ensures grows { OnOk result (Grows (texts_of dictionary.old) (texts_of dictionary.new)) }
     ensures numbered { OnOk result (AreNumbered schema.now.constants.items (texts_of dictionary.old) (texts_of dictionary.new)) }
 {
-    if number_constants(alloc, schema.constants.as_slice(), dictionary).is_err() {
-        return Err(no_memory());
-    }
     let mut out = Vec::new(alloc);
-    if !has_epochs(schema.inputs.as_slice()) {
-        if out.extend_from_slice(b"epoch\n").is_err() {
-            return Err(no_memory());
-        }
-        encode_some(alloc, schema, false, b"", dictionary, files, &mut out)?;
-        return Ok(out);
+    let files = MemoryFiles { texts: files };
+    match encode(alloc, schema, dictionary, &files, &mut out) {
+        Ok(()) => Ok(out),
+        Err(fault) => Err(refusal_of(fault)),
     }
-    let mut shared = Vec::new(alloc);
-    encode_some(alloc, schema, false, b"", dictionary, files, &mut shared)?;
-    encode_some(
-        alloc,
-        schema,
-        true,
-        shared.as_slice(),
-        dictionary,
-        files,
-        &mut out,
-    )?;
-    Ok(out)
 }
 
 /// Of files of which one is refused there is no input text by any dictionary, if the schema is right.

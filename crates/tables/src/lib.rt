@@ -8,12 +8,16 @@
 
 mod dictionary_file;
 mod encoding;
+mod file;
 mod header;
+mod line_sink;
+mod records;
 mod refusal;
-mod rows;
 
 pub use csv_answers::{Fault, TableRefusal, decode, law_refused_answer};
 pub use dictionary_file::{dictionary_text, law_read_again, read_dictionary};
-pub use encoding::{encode, has_epochs, law_constants, law_refused_input};
-pub use refusal::{EncodeRefusal, RecordFault, RowRefusal};
-pub use rows::{Target, encode_rows};
+pub use encoding::{
+    MemoryFiles, TableFiles, encode, encode_texts, has_epochs, law_constants, law_refused_input,
+};
+pub use line_sink::{LineSink, SinkFault};
+pub use refusal::{EncodeFault, EncodeRefusal, FileFault};

@@ -1,4 +1,3 @@
-use Rattle.std.proofs.Common.{◌∙◌, sym, ap, map}
 use Rattle.std.proofs.lemmas.List.{map-set}
 use Rattle.table_epochs.proofs.epoch_answer.put_text.Goals as goal
 

@@ -1,4 +1,4 @@
-use Rattle.std.proofs.Common.{◌≡◌, ◌⊎◌, ℕ, List, Option, subst}
+use Rattle.std.proofs.Common.{◌≡◌, ◌⊎◌, Option, subst}
 use Rattle.collector.specs.Watching.{inner_of}
 use Rattle.csv_epochs.specs.Epochs.{TakesOf}
 use Rattle.csv_epochs.specs.declared.epoch.Epoch as epoch

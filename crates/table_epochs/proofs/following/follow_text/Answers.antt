@@ -1,7 +1,7 @@
-use Rattle.std.proofs.Common.{◌≡◌, ◌++◌, ◌∙◌, ◌<◌, [], ℕ, List, Option, ap, length, refl, rules, subst, sym, take}
+use Rattle.std.proofs.Common.{◌≡◌, ◌++◌, ◌∙◌, ◌<◌, [], ℕ, List, ap, length, rules, subst, sym, take}
 use Rattle.std.proofs.lemmas.List.{append-nil}
 use Rattle.collector.specs.Watching.{inner_of}
-use Rattle.csv_epochs.specs.Epochs.{AreEpochs, Held}
+use Rattle.csv_epochs.specs.Epochs.{Held}
 use Rattle.csv_epochs.specs.declared.epoch.Epoch as epoch
 use Rattle.csv_epochs.proofs.TakenOn.{taken-none}
 use Rattle.table_commands.specs.Read.{IsKnownAs}

@@ -1,4 +1,4 @@
-use Rattle.std.proofs.Common.{◌≡◌, ◌++◌, ◌∙◌, ℕ, List, Option, sym, ap, refl, subst, inr}
+use Rattle.std.proofs.Common.{◌≡◌, ◌++◌, ◌∙◌, ℕ, List, sym, ap, refl, subst, inr}
 use Rattle.std.specs.Io.KnownBytes.{Appends}
 use Rattle.collector.specs.Watching.{inner_of}
 use Rattle.collector.specs.WrittenBytes.{AppendsFront}

@@ -1,4 +1,4 @@
-use Rattle.std.proofs.Common.{◌≡◌, ◌++◌, ◌∷◌, ◌+◌, ◌<◌, [], ℕ, List, get_or, length, map, take, arith, rules}
+use Rattle.std.proofs.Common.{◌≡◌, ◌++◌, ◌∷◌, ◌<◌, [], ℕ, List, get_or, length, map, take, arith, rules}
 use Rattle.std.proofs.lemmas.List.{map-append, take_more}
 use Rattle.schema.specs.declared.tables.Table.{Table}
 use Rattle.table_files.proofs.Named.{no_paths, one_more_path}

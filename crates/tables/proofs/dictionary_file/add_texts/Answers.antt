@@ -4,7 +4,7 @@ use Rattle.csv_cells.specs.Texts.{texts_of}
 use Rattle.tables.specs.Dictionaries.{dictionary_rows}
 use Rattle.tables.specs.Tables.{HasRead, IsFaultyText}
 use Rattle.tables.proofs.Cells.{dictionary-push}
-use Rattle.tables.proofs.Records.{begins}
+use Rattle.tables.proofs.Readers.{begins}
 use Rattle.tables.proofs.dictionary_file.add_texts.Goals as goal
 
 pub loop-count-init : goal.loop-count-init

@@ -1,55 +1,101 @@
-use Rattle.std.proofs.Common.{◌≡◌, ◌++◌, ◌∷◌, ◌∙◌, ◌+◌, ◌<◌, [], ℕ, List, append_assoc, get_or, length, map, take, Some, sym, ap, subst, arith, rules, inl}
-use Rattle.std.proofs.lemmas.List.{append-nil, length-take, take_more}
+use Rattle.std.proofs.Common.{◌≡◌, ◌≢◌, ◌<◌, ◌+◌, ◌++◌, ◌∙◌, [], ℕ, List, get_or, length, set, take, Some, refl, sym, ap, subst, arith, rules, inl}
+use Rattle.std.proofs.lemmas.List.{append-nil, append_assoc, get_or-set_other, length-set, take_all}
 use Rattle.std.proofs.lemmas.Option.{slice_get-get_or}
-use Rattle.csv_cells.specs.Texts.{Grows, texts_of}
+use Rattle.csv_cells.specs.Texts.{texts_of}
 use Rattle.csv_cells.proofs.Rows.{grown-twice}
 use Rattle.schema.specs.declared.tables.Table.{Table}
-use Rattle.tables.specs.Inputs.{AreJoined, IsPart, IsRefusedFile}
-use Rattle.tables.proofs.Faulty.{at-ok}
-use Rattle.tables.proofs.Joined.{joined-kept, joined-push, none-joined}
+use Rattle.tables.specs.Inputs.{AreJoined, Completes, IsKnownAs, has_own}
+use Rattle.tables.proofs.Joined.{add-completes, add-joined, none-completes, none-joined, skip-completes, skip-joined}
 use Rattle.tables.proofs.encoding.encode_some.Goals as goal
 
-pub loop-file-init : goal.loop-file-init
-loop-file-init c = record {
+pub loop-place-init : goal.loop-place-init
+loop-place-init g c = record {
+  joined = λ before sized. (
+    before,
+    [],
+    sized,
+    λ i from. refl,
+    none-completes c.args.own (g.F.TableFiles.content c.args.files.now) before before 0,
+    none-joined c.args.own c.args.shared.now before (texts_of c.args.dictionary.now) 0,
+    λ first taken h. subst (λ (t : List ℕ). g.O.LineSink.took first c.args.out.now t) (sym (append-nil taken)) h,
+  );
   grown = ([], sym (append-nil (texts_of c.args.dictionary.now)));
-  lines = [];
-  written = sym (append-nil c.args.out.now.items);
-  joined = none-joined c.args.own c.args.shared.now (map (λ v. v.items) c.args.files.now) (texts_of c.args.dictionary.now) 0;
 }
 
-pub loop-file-preserved : goal.loop-file-preserved
-loop-file-preserved c =
-    let own = c.args.own in
-    let shared : List ℕ = c.args.shared.now in
-    let files : List (List ℕ) = map (λ v. v.items) c.args.files.now in
-    let tables : List Table = c.args.schema.now.inputs.items in
-    let file : ℕ = c.loop-file.file in
-    let lt : file < length tables = omega (arith, c.loop-file-test.true) in
-    let old : List (List ℕ) = texts_of c.loop-file.dictionary in
-    let new : List (List ℕ) = texts_of c.encode_part.new.dictionary in
-    let table : Table = c.index.result.now in
-    let inv = c.loop-file.invariant in
-    let grows : Grows old new = at-ok c.encode_part.result c.in-Ok.is c.encode_part.ensures.grows in
-    let (lines, written, is) = at-ok c.encode_part.result c.in-Ok.is c.encode_part.ensures.part in
-    let at : get_or tables file table ≡ table = search rules in
-    let kept = subst (λ (t : List (List ℕ)). AreJoined own shared files t 0 (take file tables) inv.lines) (sym grows.1) (joined-kept own shared files old grows.0 0 (take file tables) inv.lines inv.joined) in
-    let part = subst (λ (f : List ℕ). IsPart own table shared f new lines) c.text_of-text.ensures is in
-    let pushed = joined-push own shared files new 0 file (take file tables) table inv.lines lines (omega (arith, length-take file tables, lt)) kept part in
-    let more : take file tables ++ table ∷ [] ≡ take (file + 1) tables = sym (rw at at (take_more tables file table lt)) in
+pub loop-place-preserved-then-has_own-own : goal.loop-place-preserved-then-has_own-own
+loop-place-preserved-then-has_own-own g c =
+    let inv = c.loop-place.invariant in
+    let tables : List Table = c.args.tables.now in
+    let n : ℕ = c.loop-place.place in
+    let lt : n < length tables = omega (arith, c.loop-place-test.true) in
+    let table : Table = c.index-tables-place.result in
+    let at : get_or tables n table ≡ table = search rules in
+    let not : has_own table.epochs ≢ c.args.own = search rules in
     record {
-      grown = grown-twice (texts_of c.args.dictionary.now) old new inv.grown grows;
-      lines = inv.lines ++ lines;
-      written = written ∙ (ap (λ (t : List ℕ). t ++ lines) inv.written ∙ append_assoc c.args.out.now.items inv.lines lines);
-      joined = subst (λ (t : List Table). AreJoined own shared files new 0 t (inv.lines ++ lines)) more pushed;
+      joined = λ before sized.
+          let (texts, lines, long, behind, completes, joined, took) = inv.joined before sized in (
+            texts,
+            lines,
+            long,
+            λ i from. behind i (omega (arith, from)),
+            skip-completes c.args.own (g.F.TableFiles.content c.args.files.now) before texts n tables table lt at not (behind n (omega arith)) completes,
+            skip-joined c.args.own c.args.shared.now texts (texts_of c.loop-place.dictionary) n tables table lines lt at not joined,
+            took,
+          );
+      grown = inv.grown;
     }
 
 pub returns-in-Err-clause-refused : goal.returns-in-Err-clause-refused
-returns-in-Err-clause-refused c =
-    let files : List (List ℕ) = map (λ v. v.items) c.args.files.now in
-    let tables : List Table = c.args.schema.now.inputs.items in
-    let file : ℕ = c.loop-file.file in
-    let lt : file < length tables = omega (arith, c.loop-file-test.true) in
-    let table : Table = c.index.result.now in
-    let at : get_or tables file table ≡ table = search rules in
-    let refused = subst (λ (f : List ℕ). IsRefusedFile table f (texts_of c.encode_part.new.dictionary) c.in-Err.refusal) c.text_of-text.ensures c.in-Err.ensures.refused in
-    inl (table, slice_get-get_or tables file table lt ∙ ap Some at, refused)
+returns-in-Err-clause-refused g c =
+    let tables : List Table = c.args.tables.now in
+    let n : ℕ = c.loop-place.place in
+    let lt : n < length tables = omega (arith, c.loop-place-test.true) in
+    let table : Table = c.index-tables-place.result in
+    let at : get_or tables n table ≡ table = search rules in
+    inl (
+      table,
+      slice_get-get_or tables n table lt ∙ ap Some at,
+      rw (sym c.open.ensures) c.in-Err.ensures.refused,
+    )
+
+pub loop-place-preserved : goal.loop-place-preserved
+loop-place-preserved g c =
+    let inv = c.loop-place.invariant in
+    let tables : List Table = c.args.tables.now in
+    let n : ℕ = c.loop-place.place in
+    let lt : n < length tables = omega (arith, c.loop-place-test.true) in
+    let table : Table = c.index-tables-place.result in
+    let at : get_or tables n table ≡ table = search rules in
+    let is : has_own table.epochs ≡ c.args.own = search rules in
+    let old : List (List ℕ) = texts_of c.loop-place.dictionary in
+    let grows = c.in-Ok.ensures.grows in
+    let (file, more, known, encoded, took_file) = c.in-Ok.ensures.encoded in
+    let known_as : IsKnownAs (g.F.TableFiles.content c.args.files.now n) file = rw (sym c.open.ensures) known in
+    record {
+      joined = λ before sized.
+          let (texts, lines, long, behind, completes, joined, took) = inv.joined before sized in
+          let within : n < length texts = omega (arith, lt, long) in (
+            set texts n file,
+            lines ++ more,
+            length-set texts n file ∙ long,
+            λ i from. get_or-set_other texts n i file [] (λ e. absurd (omega (arith, from, e))) ∙ behind i (omega (arith, from)),
+            add-completes c.args.own (g.F.TableFiles.content c.args.files.now) before texts n file tables table lt within at is known_as completes,
+            subst (λ (d : List (List ℕ)). AreJoined c.args.own c.args.shared.now (set texts n file) d 0 (take (n + 1) tables) (lines ++ more)) (sym grows.1)
+                (add-joined c.args.own c.args.shared.now texts old grows.0 n file tables table lines more lt within at is (rw (← grows.1) encoded) joined),
+            λ first taken h. subst (λ (t : List ℕ). g.O.LineSink.took first c.encode_file.new.out t) (append_assoc taken lines more) (took_file first (taken ++ lines) (took first taken h)),
+          );
+      grown = grown-twice _ _ _ inv.grown grows;
+    }
+
+pub returns-clause-joined : goal.returns-clause-joined
+returns-clause-joined g c = λ before sized.
+    let tables : List Table = c.args.tables.now in
+    let (texts, lines, long, behind, completes, joined, took) = c.loop-place.invariant.joined before sized in
+    let all : take c.loop-place.place tables ≡ tables = take_all c.loop-place.place tables (omega (arith, c.loop-place-test.false)) in (
+      texts,
+      lines,
+      long,
+      subst (λ (t : List Table). Completes c.args.own (g.F.TableFiles.content c.args.files.now) before texts 0 t) all completes,
+      subst (λ (t : List Table). AreJoined c.args.own c.args.shared.now texts (texts_of c.loop-place.dictionary) 0 t lines) all joined,
+      took,
+    )

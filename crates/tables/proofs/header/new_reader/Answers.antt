@@ -1,5 +1,5 @@
 use Rattle.std.proofs.Common.{◌∙◌}
-use Rattle.tables.proofs.Records.{none-read}
+use Rattle.tables.proofs.Readers.{none-read}
 use Rattle.tables.proofs.header.new_reader.Goals as goal
 
 pub returns : goal.returns

@@ -2,7 +2,7 @@ use Rattle.std.proofs.Common.{◌∙◌, ◌∷◌, [], ℕ, List, map, refl, sy
 use Rattle.std.proofs.lemmas.Bool.{false≢true}
 use Rattle.csv.specs.Records.{fields_of}
 use Rattle.tables.specs.Tables.{HasRead}
-use Rattle.tables.proofs.Records.{no-header, other-header}
+use Rattle.tables.proofs.Readers.{no-header, other-header}
 use Rattle.tables.proofs.header.read_header.Goals as goal
 
 pub returns-clause-found : goal.returns-clause-found

@@ -1,5 +1,5 @@
 use Rattle.csv.specs.Records.{fields_of}
-use Rattle.tables.proofs.Records.{all-read, one-read}
+use Rattle.tables.proofs.Readers.{all-read, one-read}
 use Rattle.tables.proofs.header.read_record.Goals as goal
 
 pub returns-clause-more : goal.returns-clause-more
