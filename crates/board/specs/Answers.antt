@@ -18,10 +18,10 @@ use Rattle.rows.specs.FlatRows.{arity_of}
 use Rattle.board.specs.Fitting.{arity_in}
 use Rattle.board.specs.declared.refusal.StepRefusal.{StepRefusal}
 use Rattle.board.specs.declared.refusal.StepRefusal.TheVariants as refusal
-use Rattle.board.specs.declared.board.Claimed.{Claimed}
-use Rattle.board.specs.declared.board.Claimed.TheVariants.{Stopped, Busy, Work, Drained, Idle}
-use Rattle.board.specs.declared.board.CommitRefusal.{CommitRefusal}
-use Rattle.board.specs.declared.board.CommitRefusal.TheVariants.{NoMemory}
+use Rattle.board.specs.declared.claimed.Claimed.{Claimed}
+use Rattle.board.specs.declared.claimed.Claimed.TheVariants.{Stopped, Busy, Work, Drained, Idle}
+use Rattle.board.specs.declared.claimed.CommitRefusal.{CommitRefusal}
+use Rattle.board.specs.declared.claimed.CommitRefusal.TheVariants.{NoMemory}
 
 -- the worker holds this event, and hasn't abandoned it
 abbrev pub Holds : Shown → Pass → Type 0

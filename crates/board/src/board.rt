@@ -32,6 +32,7 @@ ghost use Rattle.board.specs.Showing.{Shows};
 ghost use Rattle.board.specs.Shown.{Shown, emitted_by, input_at, side_at, tables};
 
 use crate::choices::kth_deliverable;
+use crate::claimed::{Claimed, CommitRefusal};
 use crate::frontier::{first_deliverable, first_seen, may_deliver};
 use crate::lag::Lag;
 use crate::look::{Look, OutputLook};
@@ -50,26 +51,6 @@ use std::alloc::Global;
 use std::marker::Model;
 use std::sync::Arc;
 use views::{Views, catch_up, law_of_step, law_of_waiting};
-
-/// The answer of `claim`: the first that applies, in this order.
-pub enum Claimed {
-    /// The board is stopped.
-    Stopped,
-    /// The worker holds an event, or there is no such worker.
-    Busy,
-    /// An event for the worker.
-    Work(Work),
-    /// Every input is closed, nothing waits and no worker holds an event: the run is complete.
-    Drained,
-    /// The worker can do nothing now.
-    Idle,
-}
-
-/// The reason why a commit was refused.
-pub enum CommitRefusal {
-    /// Out of memory. The board is unchanged, and the event comes back whole.
-    NoMemory(Done),
-}
 
 /// The core state, with each worker's view of the active pointstamps, and the number of epochs known to have passed.
 #[derive(Drop)]

@@ -54,6 +54,7 @@
 
 mod board;
 mod choices;
+mod claimed;
 mod codes;
 mod delivery;
 mod emitted;
@@ -76,7 +77,8 @@ mod state;
 mod worker;
 mod worker_set;
 
-pub use board::{Board, Claimed, CommitRefusal};
+pub use board::Board;
+pub use claimed::{Claimed, CommitRefusal};
 pub use codes::WRONG_FIELD_COUNT;
 pub use events::{Done, Gate, Work};
 pub use gathering::gather;

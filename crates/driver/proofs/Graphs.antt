@@ -3,8 +3,8 @@ use Rattle.std.proofs.Common.{◌≡◌, ℕ, ap, Result, Ok, Err}
 use Rattle.board.specs.Jobs.{Pass}
 use Rattle.board.specs.Answers.{Claims}
 use Rattle.board.specs.Shown.{Shown}
-use Rattle.board.specs.declared.board.Claimed.{Claimed}
-use Rattle.board.specs.declared.board.Claimed.TheVariants.{Stopped, Busy, Work, Drained, Idle}
+use Rattle.board.specs.declared.claimed.Claimed.{Claimed}
+use Rattle.board.specs.declared.claimed.Claimed.TheVariants.{Stopped, Busy, Work, Drained, Idle}
 use Rattle.driver.specs.Ends.{Ends}
 
 pub claimed_graph : (u t : Shown) (k : ℕ) (c : Claimed) → Claims u t k c → t.graph ≡ u.graph

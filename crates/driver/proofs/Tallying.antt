@@ -19,8 +19,8 @@ use Rattle.board.specs.Kept.{Goes}
 use Rattle.board.specs.Showing.{Shows}
 use Rattle.board.specs.Shown.{Shown, net}
 use Rattle.board.specs.declared.sent.Sent.{Sent}
-use Rattle.board.specs.declared.board.Claimed.{Claimed}
-use Rattle.board.specs.declared.board.Claimed.TheVariants.{Stopped, Busy, Work, Drained, Idle}
+use Rattle.board.specs.declared.claimed.Claimed.{Claimed}
+use Rattle.board.specs.declared.claimed.Claimed.TheVariants.{Stopped, Busy, Work, Drained, Idle}
 use Rattle.driver.specs.declared.tally.Counts.{Counts}
 use Rattle.driver.specs.Tallies.{AreZero, CoversAll, HaveCounted, IsCounted, IsTally, Raises, Rows, StaysTally, at, events_in, of_commit, raised, received_in, sent_in}
 

@@ -18,8 +18,8 @@ use Rattle.board.specs.Reached.{IsReached}
 use Rattle.board.specs.Shown.{Shown, Side, held_of, net, side_at, tables}
 use Rattle.board.specs.Showing.{Shows}
 use Rattle.board.specs.WorkerShown.{IsIdle}
-use Rattle.board.specs.declared.board.Claimed.{Claimed}
-use Rattle.board.specs.declared.board.Claimed.TheVariants.{Busy, Drained, Idle, Stopped}
+use Rattle.board.specs.declared.claimed.Claimed.{Claimed}
+use Rattle.board.specs.declared.claimed.Claimed.TheVariants.{Busy, Drained, Idle, Stopped}
 use Rattle.alone.specs.Rests.{IsAtRest}
 use Rattle.alone.proofs.Less.{gathers_lead, left, left_less, reached_on}
 use Rattle.alone.proofs.Resting.{passed_over}

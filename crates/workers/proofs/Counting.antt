@@ -6,7 +6,7 @@ use Rattle.board.specs.Answers.{Claims, Gathers}
 use Rattle.board.specs.Counting.{TellsCommit}
 use Rattle.board.specs.Kept.{Goes}
 use Rattle.board.specs.Shown.{Shown}
-use Rattle.board.specs.declared.board.Claimed.{Claimed}
+use Rattle.board.specs.declared.claimed.Claimed.{Claimed}
 use Rattle.board.specs.declared.sent.Sent.{Sent}
 use Rattle.driver.specs.Tallies.{IsTally, Raises, Rows}
 use Rattle.driver.proofs.Tallying.{IsUncounted, stays_claimed, stays_committed, stays_gathered, stays_same, stays_step}

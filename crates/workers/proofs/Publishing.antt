@@ -8,8 +8,8 @@ use Rattle.board.specs.Kept.{Goes}
 use Rattle.board.specs.Lateness.{Applies, BoardShown, IsAsLate, IsUpToDate}
 use Rattle.board.specs.Promises.{CountsPassed}
 use Rattle.board.specs.Shown.{Shown, tables}
-use Rattle.board.specs.declared.board.Claimed.{Claimed}
-use Rattle.board.specs.declared.board.Claimed.TheVariants.{Stopped, Busy, Work, Drained, Idle}
+use Rattle.board.specs.declared.claimed.Claimed.{Claimed}
+use Rattle.board.specs.declared.claimed.Claimed.TheVariants.{Stopped, Busy, Work, Drained, Idle}
 use Rattle.workers.specs.Held.{IsHeld, Publishes}
 
 -- nothing waits for the first worker still, for whichever worker the changes were applied

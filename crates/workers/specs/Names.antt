@@ -2,8 +2,8 @@
 use Rattle.std.specs.Prelude.{◌≡◌, List, Some, slice_get}
 use Rattle.atomic_table.specs.Seated.{TableId}
 use Rattle.events.specs.Jobs.{Pass}
-use Rattle.board.specs.declared.board.Claimed.{Claimed}
-use Rattle.board.specs.declared.board.Claimed.TheVariants.{Stopped, Busy, Work, Drained, Idle}
+use Rattle.board.specs.declared.claimed.Claimed.{Claimed}
+use Rattle.board.specs.declared.claimed.Claimed.TheVariants.{Stopped, Busy, Work, Drained, Idle}
 
 -- the event is one of the board with these tables
 abbrev pub IsNamed : List TableId → Pass → Type 0

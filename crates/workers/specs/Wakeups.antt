@@ -3,8 +3,8 @@ use Rattle.std.specs.Prelude.{◌≡◌, ◌⊎◌, ℕ, true, Result, Ok, Err}
 use Rattle.board.specs.Answers.{HasNoChoice}
 use Rattle.board.specs.Promises.{IsDrained}
 use Rattle.board.specs.Shown.{Shown}
-use Rattle.board.specs.declared.board.Claimed.{Claimed}
-use Rattle.board.specs.declared.board.Claimed.TheVariants.{Stopped, Busy, Work, Drained, Idle}
+use Rattle.board.specs.declared.claimed.Claimed.{Claimed}
+use Rattle.board.specs.declared.claimed.Claimed.TheVariants.{Stopped, Busy, Work, Drained, Idle}
 use Rattle.workers.specs.Sleeping.{Leaves, Sleeps, Takes, Wakes}
 use Rattle.workers.specs.ThreadSets.{IsEmpty, IsIn}
 use Rattle.workers.specs.declared.scheduler.Scheduler.{Scheduler}

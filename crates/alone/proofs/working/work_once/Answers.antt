@@ -1,6 +1,6 @@
 use Rattle.std.proofs.Common.{◌∙◌, ap, length, subst, sym}
 use Rattle.machine.specs.Step.{Step}
-use Rattle.board.specs.declared.board.Claimed.TheVariants as Claimed
+use Rattle.board.specs.declared.claimed.Claimed.TheVariants as Claimed
 use Rattle.board.specs.Promises.{IsDrained}
 use Rattle.board.specs.Shown.{Shown}
 use Rattle.driver.proofs.Tallying.{stays_claim, stays_committed, stays_step, stays_then}
