@@ -1,6 +1,8 @@
 pub mod Splits
 pub mod LinesRead
 pub mod PartsRead
+pub mod PiecesRead
+pub mod ReaderKeeps
 pub mod TracksJoined
 pub mod InputNames
 pub mod Filled

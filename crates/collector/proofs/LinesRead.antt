@@ -2,21 +2,17 @@
 use Rattle.std.proofs.Common.{◌≡◌, ◌<◌, ◌≤◌, ◌+◌, ◌∙◌, ℕ, ℤ, List, [], ◌∷◌, ◌++◌, length, Bool, true, false, cond, refl, sym, ap, subst, arith, append_assoc, inl, inr}
 use Rattle.std.specs.Prelude.{◌==◌, ◌&&◌}
 use Rattle.std.proofs.lemmas.Bool.Decides.{eqb_tells}
-use Rattle.std.proofs.lemmas.List.{length-append, nil_from_length}
+use Rattle.std.proofs.lemmas.List.{append-nil, length-append, nil_from_length}
 use Rattle.std.proofs.lemmas.Option.{slice_get_within}
 use Rattle.std.proofs.lemmas.List.Splits.{length-slice_split}
 use Rattle.semantics.specs.Query.{Input}
 use Rattle.collector.specs.Pieces.{split_on}
-use Rattle.collector.specs.Lines.{Item, Says, IsFault, code_of}
-use Rattle.collector.specs.InputText.{begun_after, epochs_after, records_in, LinesSay, IsRefused}
-use Rattle.collector.specs.Drafts.{draft_count, draft_records, IsKept}
-use Rattle.collector.specs.DraftGrowth.{CanTake, IsBare, IsEven, Takes}
-use Rattle.collector.specs.Parts.{IsPart}
-use Rattle.semantics.proofs.MultisetSums.{≈-from, ≈-trans}
+use Rattle.collector.specs.Lines.{Item, Says}
+use Rattle.collector.specs.InputText.{begun_after, epochs_after, records_in, LinesSay}
+use Rattle.collector.specs.Drafts.{draft_count, draft_records}
+use Rattle.collector.specs.DraftGrowth.{CanTake, IsEven, Takes}
+use Rattle.collector.specs.Piecewise.{Reads}
 use Rattle.collector.specs.declared.draft.Draft.{Draft}
-use Rattle.collector.specs.declared.epochs.Epochs.{Epochs}
-use Rattle.collector.specs.declared.refusal.Fault.{Fault}
-use Rattle.collector.specs.declared.refusal.InputRefusal.TheVariants.{At}
 
 abbrev Records : Type 0
 Records = List (List ℤ)
@@ -47,21 +43,21 @@ row_push epoch input n [] j z = refl
 row_push epoch input n (Item.epoch ∷ is) j z = row_push epoch input (n + 1) is j z
 row_push epoch input n (Item.row i zs ∷ is) j z = one_more ((input == i) && (epoch + 1 == n)) ((input == j) && (epoch + 1 == epochs_after n is)) zs z (records_in epoch input n is) _ (row_push epoch input n is j z)
 
--- the lines that were read, and what is known of them
-pub record ReadSoFar (inputs : List Input) (begun : ℕ) (text rest : List ℕ) (number : ℕ) (e : Draft) : Type 0 where
+-- the lines that were read behind what a draft held, and what is known of them
+pub record ReadSoFar (inputs : List Input) (text rest : List ℕ) (number : ℕ) (d e : Draft) : Type 0 where
   pub lines : List (List ℕ)
   pub items : List Item
-  pub said : LinesSay inputs begun lines items
+  pub said : LinesSay inputs (draft_count d) lines items
   pub parts : split_on 10 text ≡ lines ++ split_on 10 rest
   pub counted : number ≡ length lines
   pub short : number + length rest ≤ length text
-  pub epochs : draft_count e ≡ epochs_after begun items
-  pub records : (epoch input : ℕ) → draft_records e epoch input ≡ records_in epoch input begun items
+  pub epochs : draft_count e ≡ epochs_after (draft_count d) items
+  pub records : (epoch input : ℕ) → draft_records e epoch input ≡ draft_records d epoch input ++ records_in epoch input (draft_count d) items
   pub even : IsEven e
   pub tracks : length e.tracks.items ≡ length inputs
 
-pub nothing_read : (inputs : List Input) (text : List ℕ) (e : Draft) → IsBare e → length e.tracks.items ≡ length inputs → ReadSoFar inputs (draft_count e) text text 0 e
-nothing_read inputs text e none size = record {
+pub nothing_read : (inputs : List Input) (text : List ℕ) (d : Draft) → IsEven d → length d.tracks.items ≡ length inputs → ReadSoFar inputs text text 0 d d
+nothing_read inputs text d even size = record {
   lines = [];
   items = [];
   said = tt;
@@ -69,8 +65,8 @@ nothing_read inputs text e none size = record {
   counted = refl;
   short = omega arith;
   epochs = refl;
-  records = none.records;
-  even = none.even;
+  records = λ epoch input. sym (append-nil (draft_records d epoch input));
+  even = even;
   tracks = size;
 }
 
@@ -79,33 +75,43 @@ pub can_take : (inputs : List Input) (e : Draft) (line : List ℕ) (item : Item)
 can_take inputs e line Item.epoch size says = says.1
 can_take inputs e line (Item.row i zs) size says = (says.3, omega (arith, size, slice_get_within inputs i _ says.4.there), says.5)
 
+put_behind : (b : Bool) (start rs : Records) (z : List ℤ) → cond b ((start ++ rs) ++ z ∷ []) (start ++ rs) ≡ start ++ cond b (rs ++ z ∷ []) rs
+put_behind true start rs z = append_assoc start rs (z ∷ [])
+put_behind false start rs z = refl
+
 -- what the epochs hold once they have taken an item
-taken : (begun : ℕ) (e f : Draft) (items : List Item) (item : Item) → draft_count e ≡ epochs_after begun items → ((epoch input : ℕ) → draft_records e epoch input ≡ records_in epoch input begun items) → Takes e f item
-    → (draft_count f ≡ epochs_after begun (items ++ item ∷ [])) × ((epoch input : ℕ) → draft_records f epoch input ≡ records_in epoch input begun (items ++ item ∷ [])) × IsEven f × (length f.tracks.items ≡ length e.tracks.items)
-taken begun e f items Item.epoch count records takes = (
-  takes.count ∙ ap (λ n. n + 1) count ∙ sym (epochs_push begun items Item.epoch),
-  λ epoch input. takes.records epoch input ∙ records epoch input ∙ sym (epoch_push epoch input begun items),
+taken : (d e f : Draft) (items : List Item) (item : Item) → draft_count e ≡ epochs_after (draft_count d) items
+    → ((epoch input : ℕ) → draft_records e epoch input ≡ draft_records d epoch input ++ records_in epoch input (draft_count d) items) → Takes e f item
+    → (draft_count f ≡ epochs_after (draft_count d) (items ++ item ∷ []))
+    × ((epoch input : ℕ) → draft_records f epoch input ≡ draft_records d epoch input ++ records_in epoch input (draft_count d) (items ++ item ∷ []))
+    × IsEven f × (length f.tracks.items ≡ length e.tracks.items)
+taken d e f items Item.epoch count records takes = (
+  takes.count ∙ ap (λ n. n + 1) count ∙ sym (epochs_push (draft_count d) items Item.epoch),
+  λ epoch input.
+      takes.records epoch input ∙ records epoch input ∙ ap (λ (rs : Records). draft_records d epoch input ++ rs) (sym (epoch_push epoch input (draft_count d) items)),
   takes.even,
   takes.inputs,
 )
-taken begun e f items (Item.row i zs) count records takes = (
-  takes.count ∙ count ∙ sym (epochs_push begun items (Item.row i zs)),
+taken d e f items (Item.row i zs) count records takes = (
+  takes.count ∙ count ∙ sym (epochs_push (draft_count d) items (Item.row i zs)),
   λ epoch input.
+      let start : Records = draft_records d epoch input in
+      let rs : Records = records_in epoch input (draft_count d) items in
       let here = takes.records epoch input in
-      let held : draft_records f epoch input ≡ cond ((input == i) && (epoch + 1 == epochs_after begun items)) (records_in epoch input begun items ++ zs ∷ []) (records_in epoch input begun items) = rw (← count, ← records epoch input) here in
-      held ∙ sym (row_push epoch input begun items i zs),
+      let held : draft_records f epoch input ≡ cond ((input == i) && (epoch + 1 == epochs_after (draft_count d) items)) ((start ++ rs) ++ zs ∷ []) (start ++ rs) = rw (← count, ← records epoch input) here in
+      held ∙ put_behind ((input == i) && (epoch + 1 == epochs_after (draft_count d) items)) start rs zs ∙ ap (λ (all : Records). start ++ all) (sym (row_push epoch input (draft_count d) items i zs)),
   takes.even,
   takes.inputs,
 )
 
-pub next_read : (inputs : List Input) (begun : ℕ) (text rest line after : List ℕ) (n : ℕ) (e f : Draft) (item : Item) → ReadSoFar inputs begun text rest n e → split_on 10 rest ≡ line ∷ split_on 10 after → length after < length rest
-    → Says inputs (draft_count e) line item → Takes e f item → ReadSoFar inputs begun text after (n + 1) f
-next_read inputs begun text rest line after n e f item r cut less says takes =
-    let new = taken begun e f r.items item r.epochs r.records takes in
+pub next_read : (inputs : List Input) (text rest line after : List ℕ) (n : ℕ) (d e f : Draft) (item : Item) → ReadSoFar inputs text rest n d e → split_on 10 rest ≡ line ∷ split_on 10 after → length after < length rest
+    → Says inputs (draft_count e) line item → Takes e f item → ReadSoFar inputs text after (n + 1) d f
+next_read inputs text rest line after n d e f item r cut less says takes =
+    let new = taken d e f r.items item r.epochs r.records takes in
     record {
       lines = r.lines ++ line ∷ [];
       items = r.items ++ item ∷ [];
-      said = say_push inputs begun r.lines r.items line item r.said (subst (λ (k : ℕ). Says inputs k line item) r.epochs says);
+      said = say_push inputs (draft_count d) r.lines r.items line item r.said (subst (λ (k : ℕ). Says inputs k line item) r.epochs says);
       parts = r.parts ∙ ap (λ (ls : List (List ℕ)). r.lines ++ ls) cut ∙ sym (append_assoc r.lines (line ∷ []) (split_on 10 after));
       counted = ap (λ k. k + 1) r.counted ∙ sym (length-append r.lines (line ∷ []));
       short = omega (arith, r.short, less);
@@ -119,25 +125,6 @@ next_read inputs begun text rest line after n e f item r cut less says takes =
 pub filled : (bs : List ℕ) → 0 < length (split_on 10 bs)
 filled bs = omega (arith, length-slice_split (λ b. b == 10) bs)
 
--- a line that has its line feed has a fault
-pub faulty : (inputs : List Input) (text rest line after : List ℕ) (n : ℕ) (e : Draft) (fault : Fault) (code number : ℕ) → ReadSoFar inputs 0 text rest n e → split_on 10 rest ≡ line ∷ split_on 10 after
-    → IsFault inputs (draft_count e) line fault → code ≡ code_of fault → number ≡ n + 1 → IsRefused inputs text (At code number)
-faulty inputs text rest line after n e fault code number r cut bad is at = (
-  r.lines,
-  r.items,
-  r.said,
-  at ∙ ap (λ k. k + 1) r.counted,
-  line,
-  split_on 10 after,
-  r.parts ∙ ap (λ (ls : List (List ℕ)). r.lines ++ ls) cut,
-  inr (fault, is, filled after, subst (λ (k : ℕ). IsFault inputs k line fault) r.epochs bad),
-)
-
--- the last line has no line feed
-pub unended : (inputs : List Input) (text rest : List ℕ) (n : ℕ) (e : Draft) (code number : ℕ) → ReadSoFar inputs 0 text rest n e → split_on 10 rest ≡ rest ∷ [] → 0 < length rest → code ≡ 43 → number ≡ n + 1 → IsRefused inputs text (At code number)
-unended inputs text rest n e code number r cut some is at =
-    (r.lines, r.items, r.said, at ∙ ap (λ k. k + 1) r.counted, rest, [], r.parts ∙ ap (λ (ls : List (List ℕ)). r.lines ++ ls) cut, inl (is, some, refl))
-
 -- a text without bytes
 pub no_rest : (rest : List ℕ) (b : Bool) → b ≡ (length rest == 0) → b ≡ true → rest ≡ []
 no_rest rest b is yes_way = elim (eqb_tells (length rest) 0) [
@@ -145,13 +132,22 @@ no_rest rest b is yes_way = elim (eqb_tells (length rest) 0) [
   | inr other ↦ absurd (let p : true ≡ false = sym yes_way ∙ is ∙ other.0 in cc)
 ]
 
+-- a text with bytes
+pub some_rest : (rest : List ℕ) (b : Bool) → b ≡ (length rest == 0) → b ≡ false → 0 < length rest
+some_rest rest b is no_way = elim (eqb_tells (length rest) 0) [
+  | inl same ↦ absurd (let p : true ≡ false = sym same.0 ∙ sym is ∙ no_way in cc)
+  | inr other ↦ let n = other.1 in omega (arith, n)
+]
+
 -- no line is left
-pub all_read : (inputs : List Input) (begun : ℕ) (text rest : List ℕ) (n : ℕ) (d : Draft) (e : Epochs) → ReadSoFar inputs begun text rest n d → rest ≡ [] → IsKept d e → IsPart inputs begun text e
-all_read inputs begun text rest n d e r none kept = record {
+pub all_read : (inputs : List Input) (text rest : List ℕ) (n : ℕ) (d e : Draft) → ReadSoFar inputs text rest n d e → rest ≡ [] → Reads inputs text d e
+all_read inputs text rest n d e r none = record {
   lines = r.lines;
   items = r.items;
   parts = r.parts ∙ ap (λ (bs : List ℕ). r.lines ++ split_on 10 bs) none;
   said = r.said;
-  epochs = kept.count ∙ r.epochs;
-  holds = λ epoch input. ≈-trans (kept.records epoch input) (≈-from (r.records epoch input));
+  epochs = r.epochs;
+  records = r.records;
+  even = r.even;
+  tracks = r.tracks;
 }

@@ -34,7 +34,7 @@ split_step x false (m ∷ ms) t u more some (l ∷ ls) e =
     let rest : ms ≡ ls ++ [] ∷ [] = cc in
     ap (onto_first x) (more (m ∷ ls) (ap (λ (ks : List (List ℕ)). m ∷ ks) rest)) ∙ ap (λ (k : List ℕ). k ∷ (ls ++ u)) first
 
-split_behind : (xs ys : List ℕ) (ls : List (List ℕ)) → split_on 10 xs ≡ ls ++ [] ∷ [] → split_on 10 (xs ++ ys) ≡ ls ++ split_on 10 ys
+pub split_behind : (xs ys : List ℕ) (ls : List (List ℕ)) → split_on 10 xs ≡ ls ++ [] ∷ [] → split_on 10 (xs ++ ys) ≡ ls ++ split_on 10 ys
 split_behind [] ys [] e = refl
 split_behind [] ys (l ∷ ls) e =
     let rest : [] ≡ ls ++ [] ∷ [] = cc in
@@ -44,14 +44,14 @@ split_behind (x ∷ xs) ys ls e =
 
 -- ---- the items of two texts
 
-said_behind : (inputs : List Input) (begun : ℕ) (ls : List (List ℕ)) (is : List Item) (ms : List (List ℕ)) (js : List Item)
+pub said_behind : (inputs : List Input) (begun : ℕ) (ls : List (List ℕ)) (is : List Item) (ms : List (List ℕ)) (js : List Item)
     → LinesSay inputs begun ls is → LinesSay inputs (epochs_after begun is) ms js → LinesSay inputs begun (ls ++ ms) (is ++ js)
 said_behind inputs begun [] [] ms js h g = g
 said_behind inputs begun [] (i ∷ is) ms js h g = absurd h
 said_behind inputs begun (l ∷ ls) [] ms js h g = absurd h
 said_behind inputs begun (l ∷ ls) (i ∷ is) ms js h g = (h.0, said_behind inputs (begun_after begun i) ls is ms js h.1 g)
 
-epochs_behind : (begun : ℕ) (is js : List Item) → epochs_after begun (is ++ js) ≡ epochs_after (epochs_after begun is) js
+pub epochs_behind : (begun : ℕ) (is js : List Item) → epochs_after begun (is ++ js) ≡ epochs_after (epochs_after begun is) js
 epochs_behind begun [] js = refl
 epochs_behind begun (i ∷ is) js = epochs_behind (begun_after begun i) is js
 
@@ -59,7 +59,7 @@ cond_behind : (b : Bool) (z : List ℤ) (rs ss all : Records) → all ≡ rs ++ 
 cond_behind true z rs ss all e = ap (λ (xs : Records). z ∷ xs) e
 cond_behind false z rs ss all e = e
 
-records_behind : (epoch input begun : ℕ) (is js : List Item)
+pub records_behind : (epoch input begun : ℕ) (is js : List Item)
     → records_in epoch input begun (is ++ js) ≡ records_in epoch input begun is ++ records_in epoch input (epochs_after begun is) js
 records_behind epoch input begun [] js = refl
 records_behind epoch input begun (Item.epoch ∷ is) js = records_behind epoch input (begun + 1) is js
@@ -241,14 +241,6 @@ module _ (inputs : List Input) (text more : List ℕ) (e p g : Epochs) (read : I
         (≈-trans (append_same _ _ _ _ (≈-trans (read.2 epoch input) (≈-from (read.1.holds epoch input))) (behind_at epoch input))
         (≈-from (sym (records_behind epoch input 0 front part.items)))),
   )
-
--- a text whose epochs begin in it
-pub whole_read : (inputs : List Input) (text : List ℕ) (e : Epochs) → IsPart inputs 0 text e → IsReadFrom inputs text e
-whole_read inputs text e part = (
-  (λ epoch input. records_in epoch input 0 part.items),
-  record { lines = part.lines; items = part.items; parts = part.parts; said = part.said; epochs = part.epochs; holds = λ epoch input. refl },
-  part.holds,
-)
 
 -- ---- all parts
 

@@ -14,7 +14,8 @@ use Rattle.record_core.specs.Names.{is_name_byte}
 use Rattle.semantics.specs.Query.{Input}
 use Rattle.collector.specs.OutputText.{spaced}
 use Rattle.collector.specs.Pieces.{split_on}
-use Rattle.collector.specs.Lines.{Item, Says, IsFilled, AreNumbers}
+use Rattle.record_core.specs.Records.{IsRecord}
+use Rattle.collector.specs.Lines.{Item, Says, IsFilled, IsInput, IsWord, AreNumbers}
 use Rattle.collector.specs.Quick.{Fit, IsRowAt}
 use Rattle.collector.proofs.Splits.{step, stop}
 
@@ -72,31 +73,41 @@ are_numbers : (zs : List ℤ) → Fit zs → AreNumbers (map signed_decimal zs) 
 are_numbers [] fits = tt
 are_numbers (z ∷ zs) fits = ((fits.0, refl), are_numbers zs fits.1)
 
--- the line, the text after it, and what it says
-pub row_line : (inputs : List Input) (epochs : ℕ) (text after : List ℕ) (fields : List ℤ) (i : ℕ) → IsRowAt inputs text fields i after → 0 < epochs
-    → (line : List ℕ) × (split_on 10 text ≡ line ∷ split_on 10 after) × (length after < length text) × Says inputs epochs line (Item.row i fields)
-row_line inputs epochs text after fields i row begun =
-    let line : List ℕ = row.name ++ flat_map spaced fields in
-    let whole : text ≡ line ++ 10 ∷ after = row.spelled ∙ sym (append_assoc row.name (flat_map spaced fields) (10 ∷ after)) in
-    let ended : Free 10 line = free_append 10 row.name (flat_map spaced fields) (free_name 10 row.name refl row.named.goes_on) (free_fields fields row.fits) in
-    let words : split_on 32 line ≡ row.name ∷ map signed_decimal fields = words_are row.name fields (free_name 32 row.name refl row.named.goes_on) row.fits in
+-- the line of a record, and the text after it
+pub line_split : (name : List ℕ) (fields : List ℤ) (after : List ℕ) → IsWord name → Fit fields → split_on 10 (name ++ flat_map spaced fields ++ 10 ∷ after) ≡ (name ++ flat_map spaced fields) ∷ split_on 10 after
+line_split name fields after word fits =
+    split_at 10 (name ++ flat_map spaced fields) after (free_append 10 name (flat_map spaced fields) (free_name 10 name refl word.1) (free_fields fields fits))
+
+-- what the line of a record says
+pub line_says : (inputs : List Input) (epochs : ℕ) (name : List ℕ) (fields : List ℤ) (i : ℕ) → IsWord name → IsInput inputs name i (length fields) → IsRecord fields → Fit fields → 0 < epochs
+    → Says inputs epochs (name ++ flat_map spaced fields) (Item.row i fields)
+line_says inputs epochs name fields i word of shape fits begun =
+    let words : split_on 32 (name ++ flat_map spaced fields) ≡ name ∷ map signed_decimal fields = words_are name fields (free_name 32 name refl word.1) fits in
     let epoch_words : length (split_on 32 (codes "epoch")) ≡ 1 = refl in
-    let size : length (row.name ∷ map signed_decimal fields) ≡ suc (length fields) = ap suc (length-map fields signed_decimal) in (
+    let size : length (name ∷ map signed_decimal fields) ≡ suc (length fields) = ap suc (length-map fields signed_decimal) in (
+      name,
+      map signed_decimal fields,
+      record {
+        other = λ e. absurd (omega (arith, ap length (sym words ∙ ap (split_on 32) e), epoch_words, size, shape.0));
+        words = words;
+        spelled = word;
+        filled = are_filled fields fits;
+      },
+      begun,
+      of,
+      shape,
+      are_numbers fields fits,
+    )
+
+-- the line, the text after it, and what it says
+pub first_row : (inputs : List Input) (epochs : ℕ) (text after : List ℕ) (fields : List ℤ) (i : ℕ) → IsRowAt inputs text fields i after → 0 < epochs
+    → (line : List ℕ) × (split_on 10 text ≡ line ∷ split_on 10 after) × (length after < length text) × Says inputs epochs line (Item.row i fields)
+first_row inputs epochs text after fields i row begun =
+    let word : IsWord row.name = (row.named.begins, row.named.goes_on, row.named.short) in
+    let line : List ℕ = row.name ++ flat_map spaced fields in
+    let whole : text ≡ line ++ 10 ∷ after = row.spelled ∙ sym (append_assoc row.name (flat_map spaced fields) (10 ∷ after)) in (
       line,
-      ap (split_on 10) whole ∙ split_at 10 line after ended,
+      ap (split_on 10) whole ∙ line_split row.name fields after word row.fits,
       omega (arith, ap length whole, length-append line (10 ∷ after)),
-      (
-        row.name,
-        map signed_decimal fields,
-        record {
-          other = λ e. absurd (omega (arith, ap length (sym words ∙ ap (split_on 32) e), epoch_words, size, row.shape.0));
-          words = words;
-          spelled = (row.named.begins, row.named.goes_on, row.named.short);
-          filled = are_filled fields row.fits;
-        },
-        begun,
-        row.of,
-        row.shape,
-        are_numbers fields row.fits,
-      ),
+      line_says inputs epochs row.name fields i word row.of row.shape row.fits begun,
     )

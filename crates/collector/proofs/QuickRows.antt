@@ -28,7 +28,7 @@ no_field text fields e = record {
   fits = subst Fit (sym e) tt;
 }
 
-fit_more : (zs : List ℤ) (z : ℤ) → Fit zs → FitsSigned w64 z → Fit (zs ++ z ∷ [])
+pub fit_more : (zs : List ℤ) (z : ℤ) → Fit zs → FitsSigned w64 z → Fit (zs ++ z ∷ [])
 fit_more [] z h f = (f, tt)
 fit_more (y ∷ ys) z h f = (h.0, fit_more ys z h.1 f)
 

@@ -15,11 +15,6 @@ pub record HasNone (e : Draft) : Type 0 where
   pub records : (epoch input : ℕ) → draft_records e epoch input ≡ []
   pub even : IsEven e
 
--- no record has come
-pub record IsBare (e : Draft) : Type 0 where
-  pub records : (epoch input : ℕ) → draft_records e epoch input ≡ []
-  pub even : IsEven e
-
 -- one more epoch has begun
 pub record Begins (e f : Draft) : Type 0 where
   pub count : draft_count f ≡ draft_count e + 1

@@ -17,3 +17,4 @@ pub mod Partitions
 pub mod OutputText
 pub mod Emitted
 pub mod Quick
+pub mod Piecewise

@@ -37,6 +37,13 @@ impl Draft {
         self.count
     }
 
+    /// The number of inputs.
+    pub fn inputs(&self) -> usize
+        ensures { result ≡ length self.now.tracks.items }
+    {
+        self.tracks.len()
+    }
+
     /// Begins the next epoch, without records.
     pub fn begin(&mut self, alloc: Global) -> Result<(), NoMemory>
         requires few { draft_count self.old < 2 ^ 32 - 1 }

@@ -163,7 +163,7 @@ pub fn read_fields(rest: Option<&[u8]>, fields: &mut Vec<i64>) -> Result<bool, A
 }
 
 /// Whether the fields make a record of an input of that arity.
-fn make_record(fields: &[i64], arity: u64) -> bool
+pub(crate) fn make_record(fields: &[i64], arity: u64) -> bool
     ensures { IsTrue result ↔ MakeRecord arity fields.now }
 {
     let count = fields.len();

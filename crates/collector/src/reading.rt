@@ -1,13 +1,14 @@
 //! Reads the input text.
 
-ghost use Rattle.std.specs.Prelude.{◌≡◌, ◌++◌, ℕ, List, length, map, IfOk, IfErr, IfSome, OnOk};
+ghost use Rattle.std.specs.Prelude.{◌≡◌, ◌++◌, ℕ, ℤ, List, length, map, IfOk, IfErr, IfSome, OnOk};
 ghost use Rattle.std.specs.List.{AllZip};
 ghost use Rattle.record_core.specs.Inputs.{input_of};
 ghost use Rattle.semantics.specs.Query.{Input};
-ghost use Rattle.collector.specs.DraftGrowth.{CanTake, IsBare, IsEven, Takes};
+ghost use Rattle.collector.specs.DraftGrowth.{CanTake, IsEven, Takes};
 ghost use Rattle.collector.specs.Drafts.{draft_count};
-ghost use Rattle.collector.specs.InputText.{IsReadFrom, IsRefused};
+ghost use Rattle.collector.specs.InputText.{IsInputText, IsReadFrom, IsRefused};
 ghost use Rattle.collector.specs.Parts.{IsPart, together};
+ghost use Rattle.collector.specs.Piecewise.{Reads, further};
 ghost use Rattle.collector.specs.Said.{item_of};
 
 use crate::codes::NO_LINE_FEED;
@@ -31,17 +32,19 @@ fn take_line(alloc: Global, draft: &mut Draft, said: Line, fields: &[i64]) -> Re
     }
 }
 
-/// Reads the lines of a text into a draft without records, in which an epoch may have begun.
-fn read_lines(
+/// Reads the lines of a text into a draft, behind what it holds. The lines of a refusal count from the first of these.
+pub(crate) fn read_into(
     alloc: Global,
     text: &[u8],
     inputs: &[DeclaredInput],
     draft: Draft,
-) -> Result<Epochs, InputRefusal>
-    requires bare { IsBare draft }
+) -> Result<Draft, InputRefusal>
+    requires even { IsEven draft }
     requires inputs { length draft.tracks.items ≡ length inputs.now }
-    ensures read { IfOk result (IsPart (map input_of inputs.now) (draft_count draft) text.now) }
-    ensures refused { IfErr result (λ e. draft_count draft ≡ 0 → IsRefused (map input_of inputs.now) text.now e) }
+    ensures read { IfOk result (Reads (map input_of inputs.now) text.now draft) }
+    ensures refused { IfErr result (λ e. (before : List ℕ) (records : ℕ → ℕ → List (List ℤ))
+        (is : IsInputText (map input_of inputs.now) before (draft_count draft) records)
+        → IsRefused (map input_of inputs.now) (before ++ text.now) (further (length is.lines) e)) }
 {
     let mut draft = draft;
     let mut fields = Vec::new(alloc);
@@ -69,7 +72,7 @@ fn read_lines(
             }
         }
     }
-    Ok(draft.finish(alloc)?)
+    Ok(draft)
 }
 
 /// Reads a whole input text for these inputs, in linear time.
@@ -85,7 +88,8 @@ pub fn read_input(
     ensures refused { IfErr result (IsRefused (map input_of inputs.now) text.now) }
 {
     let draft = Draft::new(alloc, inputs.len())?;
-    read_lines(alloc, text, inputs, draft)
+    let read = read_into(alloc, text, inputs, draft)?;
+    Ok(read.finish(alloc)?)
 }
 
 /// Reads a part of an input text in which an epoch has begun before its first line. The lines of a refusal count from the part's first one.
@@ -98,7 +102,8 @@ pub fn read_part(
 {
     let mut draft = Draft::new(alloc, inputs.len())?;
     draft.begin(alloc)?;
-    read_lines(alloc, text, inputs, draft)
+    let read = read_into(alloc, text, inputs, draft)?;
+    Ok(read.finish(alloc)?)
 }
 
 /// The epochs of a text that was read in parts, one behind the other; its first part was read as a whole text is. `None` where memory is refused, or

@@ -1,5 +1,5 @@
 -- Records that were read for a graph's inputs have the fields that these take.
-use Rattle.std.proofs.Common.{◌≡◌, ◌<◌, ◌+◌, ◌∙◌, ◌⊎◌, ℕ, Bool, true, false, List, [], ◌∷◌, length, refl, sym, ap, subst, arith, inl, inr, Option}
+use Rattle.std.proofs.Common.{◌≡◌, ◌<◌, ◌+◌, ◌∙◌, ◌⊎◌, ℕ, Bool, true, false, List, [], ◌∷◌, length, refl, sym, ap, subst, arith, inl, inr}
 use Rattle.std.specs.Prelude.{◌==◌, ◌&&◌, if◌then◌else◌}
 use Rattle.std.proofs.Math.Logic.{∥∥₁_elim}
 use Rattle.std.proofs.Math.Nat.{ℕ_set}
@@ -11,9 +11,11 @@ use Rattle.board.specs.Fitting.{arity_in}
 use Rattle.driver.specs.Inputs.{AreInputsOf}
 use Rattle.collector.specs.InputText.{IsReadFrom, LinesSay, records_in}
 use Rattle.collector.specs.Lines.{Item}
+use Rattle.collector.specs.Piecewise.{HasRead, HasStopped}
 use Rattle.collector.specs.declared.epochs.Epochs.{Epochs}
+use Rattle.collector.specs.declared.input_reader.InputReader.{InputReader}
 use Rattle.execution.specs.Single.{Fit}
-use Rattle.commands.specs.Taken.{AreEpochsOf}
+use Rattle.commands.specs.Taken.{ReadsFor}
 
 module _ (g : GraphValue) (are : AreInputsOf g (shown_inputs g)) (epoch input : ℕ) (r : Record) where
   -- the record is the first one, if that is taken, or among the others
@@ -48,7 +50,10 @@ reads_fit g text e are (records, is, same_records) input epoch r some =
     said_fit g are epoch input r 0 0 is.lines is.items is.said (subst (λ (xs : List Record). 0 < count r xs) (is.holds epoch input) (omega (arith, some, counts)))
 
 -- so do those of what was taken
-pub taken_fit : (g : GraphValue) (taken : Option Epochs) (e : Epochs) → AreInputsOf g (shown_inputs g) → ((text : List ℕ) → AreEpochsOf (shown_inputs g) taken text → IsReadFrom (shown_inputs g) text e)
-    → ∥ ((text : List ℕ) × AreEpochsOf (shown_inputs g) taken text) ∥₁ → Fit e g
-taken_fit g taken e are read some input epoch r there =
-    ∥∥₁_elim some (ℕ_set (length r) (arity_in g input)) (λ (text, is). reads_fit g text e are (read text is) input epoch r there)
+pub taken_fit : (g : GraphValue) (taken : InputReader) (e : Epochs) → AreInputsOf g (shown_inputs g) → ((text : List ℕ) → HasRead (shown_inputs g) text taken → IsReadFrom (shown_inputs g) text e) → (HasStopped taken → ⊥)
+    → ∥ ReadsFor (shown_inputs g) taken ∥₁ → Fit e g
+taken_fit g taken e are read going some input epoch r there =
+    ∥∥₁_elim some (ℕ_set (length r) (arity_in g input)) (λ reads. elim reads [
+      | inl (text, is) ↦ reads_fit g text e are (read text is) input epoch r there
+      | inr stopped ↦ absurd (going stopped)
+    ])

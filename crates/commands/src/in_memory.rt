@@ -1,22 +1,23 @@
 //! A run over texts in memory.
 
-ghost use Rattle.std.specs.Prelude.{◌≡◌, [], ℕ, List, IfOk};
+ghost use Rattle.std.specs.Prelude.{◌≡◌, ◌++◌, [], ℕ, List, IfOk, OnOk};
+ghost use Rattle.collector.specs.Piecewise.{row_line};
 ghost use Rattle.collector.specs.Watching.{inner_of};
 ghost use Rattle.query_answers.specs.Runs.{IsRun};
 ghost use Rattle.commands.specs.Taken.{HasTaken};
 
-use crate::intake::{Intake, lines_fault, take_lines, taken_epochs};
+use crate::intake::{Intake, lines_fault, take_lines, take_record};
 use crate::reading::read_query;
 use crate::run_options::RunOptions;
 use crate::running::{answer_epochs, graph_of_text};
 use crate::streams::Streams;
-use collector::Watched;
+use collector::{InputReader, Watched, push_row_line};
 use command_line::Workers;
-use compile::input_fault;
 use diagnostics::{Fault, Texts};
 use driver::law_inputs;
 use execution::{NoGate, Watcher};
 use query_answers::Answering;
+use record_core::NoMemory;
 use std::alloc::Global;
 use std::sync::Wait;
 use std::thread::Threads;
@@ -47,17 +48,16 @@ fn answer_taken<R: Threads + Wait + Sync>(
     intake: Intake,
     texts: &mut Texts,
 ) -> Result<Vec<u8>, Fault>
-    ensures { (query text : List ℕ) → HasTaken intake.graph intake.epochs query text → IfOk result (λ answer. IsRun query text answer.items) }
+    ensures { (query text : List ℕ) → HasTaken intake.graph intake.reader query text → IfOk result (λ answer. IsRun query text answer.items) }
 {
     let Intake {
         graph,
         workers,
-        epochs,
+        reader,
         ..
     } = intake;
-    let epochs = match taken_epochs(alloc, &graph, epochs) {
-        Ok(epochs) => epochs,
-        Err(refusal) => return Err(input_fault(refusal)),
+    let Ok(epochs) = reader.finish(alloc) else {
+        return Err(Fault::NoMemory);
     };
     let options = RunOptions {
         workers,
@@ -78,6 +78,40 @@ fn answer_taken<R: Threads + Wait + Sync>(
         Ok(()) => Ok(streams.out.into_inner()),
         Err(fault) => Err(memory_fault(fault)),
     }
+}
+
+/// Takes more lines. Where they are refused, they are left in `texts`, if there is memory for them.
+fn take_text(
+    alloc: Global,
+    intake: &mut Intake,
+    lines: &[u8],
+    texts: &mut Texts,
+) -> Result<(), Fault>
+    ensures { (query text : List ℕ) → HasTaken intake.old.graph intake.old.reader query text →
+        OnOk result (HasTaken intake.new.graph intake.new.reader query (text ++ lines.now)) }
+{
+    match take_lines(alloc, intake, lines) {
+        Ok(()) => Ok(()),
+        Err(refusal) => Err(lines_fault(alloc, refusal, intake.lines, lines, texts)),
+    }
+}
+
+/// Takes a record as its line.
+fn take_line(
+    alloc: Global,
+    intake: &mut Intake,
+    name: &[u8],
+    numbers: &[i64],
+    texts: &mut Texts,
+) -> Result<(), Fault>
+    ensures { (query text : List ℕ) → HasTaken intake.old.graph intake.old.reader query text →
+        OnOk result (HasTaken intake.new.graph intake.new.reader query (text ++ row_line name.now numbers.now)) }
+{
+    let mut line = Vec::new(alloc);
+    if push_row_line(&mut line, name, numbers).is_err() {
+        return Err(Fault::NoMemory);
+    }
+    take_text(alloc, intake, line.as_slice(), texts)
 }
 
 /// The engine of the commands, over texts in memory.
@@ -101,7 +135,7 @@ impl<'a, R: Threads + Wait + Sync> Answering for InMemory<'a, R> {
 
     type Intake = Intake;
 
-    ghost holds = { λ intake query text. HasTaken intake.graph intake.epochs query text };
+    ghost holds = { λ intake query text. HasTaken intake.graph intake.reader query text };
 
     fn begin(
         &self,
@@ -111,10 +145,14 @@ impl<'a, R: Threads + Wait + Sync> Answering for InMemory<'a, R> {
         texts: &mut Texts,
     ) -> Result<Intake, Fault> {
         texts.query = read_query(alloc, &mut Watched::new(query))?;
+        let graph = graph_of_text(alloc, &texts.query)?;
+        let Ok(reader) = InputReader::new(alloc, graph.inputs().len()) else {
+            return Err(Fault::NoMemory);
+        };
         Ok(Intake {
-            graph: graph_of_text(alloc, &texts.query)?,
+            graph,
             workers,
-            epochs: None,
+            reader,
             lines: 0,
         })
     }
@@ -126,12 +164,21 @@ impl<'a, R: Threads + Wait + Sync> Answering for InMemory<'a, R> {
         lines: &[u8],
         texts: &mut Texts,
     ) -> Result<(), Fault> {
-        if lines.is_empty() {
-            return Ok(());
-        }
-        match take_lines(alloc, intake, lines) {
-            Ok(()) => Ok(()),
-            Err(refusal) => Err(lines_fault(alloc, refusal, intake.lines, lines, texts)),
+        take_text(alloc, intake, lines, texts)
+    }
+
+    fn take_row(
+        &self,
+        alloc: Global,
+        intake: &mut Intake,
+        name: &[u8],
+        numbers: &[i64],
+        texts: &mut Texts,
+    ) -> Result<(), Fault> {
+        match take_record(alloc, intake, name, numbers) {
+            Ok(true) => Ok(()),
+            Ok(false) => take_line(alloc, intake, name, numbers, texts),
+            Err(NoMemory) => Err(Fault::NoMemory),
         }
     }
 

@@ -1,46 +1,26 @@
 //! What was taken of an input text.
 
-ghost use Rattle.std.specs.Prelude.{◌≡◌, ◌++◌, ℕ, List, IfOk, OnOk};
-ghost use Rattle.collector.specs.InputText.{IsReadFrom};
+ghost use Rattle.std.specs.Prelude.{◌≡◌, ◌++◌, ℕ, List, true, false, IfOk, OnOk};
+ghost use Rattle.collector.specs.Piecewise.{HasRead, row_line};
 ghost use Rattle.graph.specs.Shown.{shown_inputs};
-ghost use Rattle.commands.specs.Taken.{AreEpochsOf};
+ghost use Rattle.commands.specs.Taken.{ReadsFor};
 
-use collector::{Epochs, InputRefusal, join_parts, read_input, read_part};
+use collector::{InputReader, InputRefusal};
 use command_line::Workers;
 use diagnostics::{Fault, Texts};
 use graph::Graph;
+use record_core::NoMemory;
 use std::alloc::Global;
 
-/// The graph of a query, and the epochs of what was taken of its input text.
+/// The graph of a query, and what was read of its input text.
 #[derive(Drop)]
 pub struct Intake {
     pub(crate) graph: Graph,
     pub(crate) workers: Workers,
-    /// None before the first line.
-    pub(crate) epochs: Option<Epochs>,
+    pub(crate) reader: InputReader,
     /// How many lines were taken.
     pub(crate) lines: u64,
-    ghost taken: { ∥ ((text : List ℕ) × AreEpochsOf (shown_inputs graph) epochs text) ∥₁ },
-}
-
-/// The epochs of a text with more lines behind it. More epochs than a text may have are reported as lack of memory.
-fn epochs_with(
-    alloc: Global,
-    graph: &Graph,
-    before: Option<Epochs>,
-    lines: &[u8],
-) -> Result<Epochs, InputRefusal>
-    ensures { (text : List ℕ) → AreEpochsOf (shown_inputs graph.now) before text → IfOk result (IsReadFrom (shown_inputs graph.now) (text ++ lines.now)) }
-{
-    let Some(before) = before else {
-        return read_input(alloc, lines, graph.inputs());
-    };
-    let mut parts = Vec::new(alloc);
-    parts.push(read_part(alloc, lines, graph.inputs())?)?;
-    match join_parts(before, parts) {
-        Some(epochs) => Ok(epochs),
-        None => Err(InputRefusal::NoMemory),
-    }
+    ghost taken: { ∥ ReadsFor (shown_inputs graph) reader ∥₁ },
 }
 
 /// How many lines a text has that ends with a line feed.
@@ -48,21 +28,41 @@ fn line_count(text: &[u8]) -> u64 {
     text.iter().filter(|byte| **byte == b'\n').count() as u64
 }
 
-/// Takes more lines. After a refusal nothing is kept of the text.
+/// Takes more lines. The line of a refusal counts from the first of these; after it no more is taken.
 pub(crate) fn take_lines(
     alloc: Global,
     intake: &mut Intake,
     lines: &[u8],
 ) -> Result<(), InputRefusal>
     ensures graph { intake.new.graph ≡ intake.old.graph }
-    ensures taken { (text : List ℕ) → AreEpochsOf (shown_inputs intake.old.graph) intake.old.epochs text →
-        OnOk result (AreEpochsOf (shown_inputs intake.old.graph) intake.new.epochs (text ++ lines.now)) }
+    ensures taken { (text : List ℕ) → HasRead (shown_inputs intake.old.graph) text intake.old.reader →
+        OnOk result (HasRead (shown_inputs intake.old.graph) (text ++ lines.now) intake.new.reader) }
 {
-    let before = intake.epochs.take();
-    let epochs = epochs_with(alloc, &intake.graph, before, lines)?;
-    intake.epochs = Some(epochs);
+    intake.reader.take(alloc, lines, intake.graph.inputs())?;
     intake.lines = intake.lines.saturating_add(line_count(lines));
     Ok(())
+}
+
+/// Takes a record in place of its line. False, and nothing is taken, where that would be refused.
+pub(crate) fn take_record(
+    alloc: Global,
+    intake: &mut Intake,
+    name: &[u8],
+    row: &[i64],
+) -> Result<bool, NoMemory>
+    ensures graph { intake.new.graph ≡ intake.old.graph }
+    ensures taken { (text : List ℕ) → HasRead (shown_inputs intake.old.graph) text intake.old.reader →
+        IfOk result (λ b. b ≡ true → HasRead (shown_inputs intake.old.graph) (text ++ row_line name.now row.now) intake.new.reader) }
+    ensures same { (text : List ℕ) → HasRead (shown_inputs intake.old.graph) text intake.old.reader →
+        IfOk result (λ b. b ≡ false → HasRead (shown_inputs intake.old.graph) text intake.new.reader) }
+{
+    let is_taken = intake
+        .reader
+        .take_row(alloc, intake.graph.inputs(), name, row)?;
+    if is_taken {
+        intake.lines = intake.lines.saturating_add(1);
+    }
+    Ok(is_taken)
 }
 
 /// The fault of lines that are refused, with that many before them. They are left in `texts`, if there is memory for them.
@@ -82,18 +82,4 @@ pub(crate) fn lines_fault(
     }
     let line = before.saturating_add(line);
     Fault::Input { code, line }
-}
-
-/// The epochs that were taken; those of an empty text where nothing was.
-pub(crate) fn taken_epochs(
-    alloc: Global,
-    graph: &Graph,
-    epochs: Option<Epochs>,
-) -> Result<Epochs, InputRefusal>
-    ensures { (text : List ℕ) → AreEpochsOf (shown_inputs graph.now) epochs text → IfOk result (IsReadFrom (shown_inputs graph.now) text) }
-{
-    match epochs {
-        Some(epochs) => Ok(epochs),
-        None => read_input(alloc, b"", graph.inputs()),
-    }
 }

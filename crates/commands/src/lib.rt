@@ -3,7 +3,7 @@
 //! | Call | Reads | Writes |
 //! |---|---|---|
 //! | `run` | a query and an input | the answer, and if asked what each vertex did |
-//! | `InMemory` | the same, in memory, the input in pieces | nothing: the answer is given back |
+//! | `InMemory` | the same, in memory, the input as lines and records | nothing: the answer is given back |
 //! | `follow_query` | the same | the answer, while the input still comes |
 //! | `check_query`, `check_input` | a query, and an input too | the query's arities |
 //! | `graph_query` | a query | its graph, which crate `compile` makes |

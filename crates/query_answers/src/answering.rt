@@ -1,13 +1,14 @@
 //! What answers queries over inputs, in memory.
 
 ghost use Rattle.std.specs.Prelude.{◌++◌, ℕ, List, [], IfOk, OnOk};
+ghost use Rattle.collector.specs.Piecewise.{row_line};
 ghost use Rattle.query_answers.specs.Runs.{IsRun, read_part};
 
 use command_line::Workers;
 use diagnostics::{Fault, Texts};
 use std::alloc::Global;
 
-/// Answers queries over input texts that come in pieces: it begins, takes one piece after the other, and then answers.
+/// Answers queries over input texts that come in pieces: it begins, takes lines and records one after the other, and then answers.
 pub trait Answering {
     // What must be known of its types where it is used: of one with threads, that they may share its handle.
     ghost is_usable: { Type 0 };
@@ -39,6 +40,17 @@ pub trait Answering {
         texts: &mut Texts,
     ) -> Result<(), Fault>
         ensures { (query taken : List ℕ) → holds intake.old query taken → OnOk result (holds intake.new query (taken ++ lines.now)) };
+
+    /// Takes a record of the input of that name in place of its line, as `take` takes that line.
+    fn take_row(
+        &self,
+        alloc: Global,
+        intake: &mut Self::Intake,
+        name: &[u8],
+        numbers: &[i64],
+        texts: &mut Texts,
+    ) -> Result<(), Fault>
+        ensures { (query taken : List ℕ) → holds intake.old query taken → OnOk result (holds intake.new query (taken ++ row_line name.now numbers.now)) };
 
     /// The answer of the query to all that was taken.
     fn answer(

@@ -1,3 +1,2 @@
 pub mod Statuses
 pub mod Answered
-pub mod Pieces

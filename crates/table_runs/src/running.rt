@@ -8,7 +8,6 @@ ghost use Rattle.table_commands.specs.Read.{IsInputOf};
 ghost use Rattle.tables.specs.Inputs.{AreNumbered};
 ghost use Rattle.table_runs.specs.Runs.{Fails, IsAnswerBy, IsAnswerFile, IsDone, WritesAnswer};
 
-use crate::intake::TextIntake;
 use collector::{Sources, Watched, put};
 use csv_cells::Dictionary;
 use diagnostics::Texts;
@@ -20,7 +19,7 @@ use table_commands::{
     Drafts, InputFault, append_input, begin_dictionary, dictionary_of, grown_text, table_fault,
     write_with,
 };
-use table_queries::{Job, RunFault, asked_output, begin_run};
+use table_queries::{EngineSink, Job, RunFault, asked_output, begin_run};
 use tables::{decode, has_epochs};
 
 /// What an answer is called where it is refused.
@@ -41,7 +40,7 @@ fn answer_of_files<'a, A: Answering, S: Sources<'a>>(
     ensures numbered { OnOk result (AreNumbered job.now.schema.now.constants.items (texts_of dictionary.old) (texts_of dictionary.new)) }
 {
     let intake = engine.begin(alloc, job.workers, job.query, texts)?;
-    let mut input = TextIntake::new(engine, alloc, intake);
+    let mut input = EngineSink::new(engine, alloc, intake);
     match append_input(
         alloc, sources, job.schema, job.paths, dictionary, &mut input,
     ) {
