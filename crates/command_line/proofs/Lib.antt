@@ -1,3 +1,2 @@
-mod Adding
 pub mod Holding
 pub mod ReadNumbers

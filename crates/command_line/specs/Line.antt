@@ -1,5 +1,6 @@
 -- The command line: its commands, and what the matches of the words hold.
-use Rattle.std.specs.Prelude.{◌≡◌, ℕ, Bool, true, false, List, [], Option, Some, None, option_map, codes}
+use Rattle.std.specs.Prelude.{◌≡◌, ◌++◌, ◌∷◌, ℕ, Bool, true, false, List, [], Option, Some, None, codes, fold, option_map}
+use Rattle.clap.specs.Lexer.{usize_max}
 use Rattle.clap.specs.Words.{App, Row, Rule, Text, first_of, new_app, new_rule, one_of, subcommand_of, with_rule, with_subcommand}
 use Rattle.clap.specs.declared.builder.action.ArgAction.TheVariants.{SetTrue}
 use Rattle.clap.specs.declared.builder.value_parser.ValueParser.TheVariants.{Unsigned}
@@ -22,17 +23,33 @@ word_rule id = record (new_rule id) { required = true }
 abbrev pub optional_rule : Text → Rule
 optional_rule id = new_rule id
 
+-- one word or more
+abbrev pub words_rule : Text → Rule
+words_rule id = record (word_rule id) { range = Some (record { start_inclusive = 1; end_inclusive = usize_max }) }
+
 -- a flag, `--` and its name
 abbrev pub flag_rule : Text → Rule
 flag_rule id = record (new_rule id) { long = Some id; action = Some SetTrue }
 
--- `-e`, or `--inline`
-abbrev pub inline_rule : Rule
-inline_rule = record (flag_rule (codes "inline")) { short = Some 101 }
+-- a flag, or `-` and a letter
+abbrev pub letter_rule : Text → ℕ → Rule
+letter_rule id letter = record (flag_rule id) { short = Some letter }
+
+-- an option, `--` and its name, and then a word
+abbrev pub named_rule : Text → Rule
+named_rule id = record (new_rule id) { long = Some id; value_names = 1 }
+
+-- the same, which has to be given
+abbrev pub required_rule : Text → Rule
+required_rule id = record (named_rule id) { required = true }
 
 -- an option, `--` and its name, and then a number in that range
 abbrev pub range_rule : Text → (least most : ℕ) → Rule
 range_rule id least most = record (new_rule id) { long = Some id; value_names = 1; parser = Some (Unsigned least most) }
+
+-- `-e`, or `--inline`
+abbrev pub inline_rule : Rule
+inline_rule = letter_rule (codes "inline") 101
 
 -- the options for the number of workers, for the number of the first epoch and for the size of the heap
 abbrev pub workers_rule : Rule
@@ -44,90 +61,74 @@ first_epoch_rule = range_rule (codes "first-epoch") 0 9223372036854775807
 abbrev pub heap_rule : Rule
 heap_rule = range_rule (codes "heap") 64 16777216
 
--- a command with `--explain`, `-e` and a query
-abbrev pub queried : App → App
-queried a = with_rule (with_rule (with_rule a (flag_rule (codes "explain"))) inline_rule) (word_rule (codes "QUERY"))
-
--- `check QUERY` or `check QUERY INPUT`, with or without `--heap BYTES`
-abbrev pub check_app : App
-check_app = with_rule (queried (with_rule (new_app (codes "check")) heap_rule)) (optional_rule (codes "INPUT"))
-
--- `graph QUERY`, with or without `--dot` and `--heap BYTES`
-abbrev pub graph_app : App
-graph_app = queried (with_rule (with_rule (new_app (codes "graph")) (flag_rule (codes "dot"))) heap_rule)
-
--- `format QUERY`
-abbrev pub format_app : App
-format_app = queried (new_app (codes "format"))
-
--- an option, `--` and its name, and then a word
-abbrev pub named_rule : Text → Rule
-named_rule id = record (new_rule id) { long = Some id; value_names = 1 }
-
--- `sql QUERY`, with or without `--with`, `--wrapped`, `--epochs`, `--dialect NAME` and `--output NAME`
-abbrev pub sql_app : App
-sql_app =
-    queried
-    (with_rule
-    (with_rule
-    (with_rule (with_rule (with_rule (new_app (codes "sql")) (flag_rule (codes "with"))) (flag_rule (codes "wrapped"))) (flag_rule (codes "epochs")))
-    (named_rule (codes "dialect")))
-    (named_rule (codes "output")))
-
 -- `--end-mark`
 abbrev pub end_mark_rule : Rule
 end_mark_rule = flag_rule (codes "end-mark")
 
+-- `--explain`, `-e` and a query
+abbrev pub query_rules : List Rule
+query_rules = flag_rule (codes "explain") ∷ inline_rule ∷ word_rule (codes "QUERY") ∷ []
+
+-- a command with these
+abbrev pub queried : App → App
+queried a = fold with_rule a query_rules
+
+-- the command of that name that takes these
+abbrev pub taking : Text → List Rule → App
+taking name rules = record (new_app name) { top = record (new_app name).top { rules = rules } }
+
+-- `check QUERY` or `check QUERY INPUT`, with or without `--heap BYTES`
+abbrev pub check_app : App
+check_app = taking (codes "check") (heap_rule ∷ query_rules ++ optional_rule (codes "INPUT") ∷ [])
+
+-- `graph QUERY`, with or without `--dot` and `--heap BYTES`
+abbrev pub graph_app : App
+graph_app = taking (codes "graph") (flag_rule (codes "dot") ∷ heap_rule ∷ query_rules)
+
+-- `format QUERY`
+abbrev pub format_app : App
+format_app = taking (codes "format") query_rules
+
+-- `sql QUERY`, with or without `--with`, `--wrapped`, `--epochs`, `--dialect NAME` and `--output NAME`
+abbrev pub sql_app : App
+sql_app =
+    taking (codes "sql")
+    (flag_rule (codes "with") ∷ flag_rule (codes "wrapped") ∷ flag_rule (codes "epochs") ∷ named_rule (codes "dialect") ∷ named_rule (codes "output")
+    ∷ query_rules)
+
 -- `run QUERY INPUT`, with or without `--workers N`, `--watch`, `--stats`, `--dot` and `--end-mark`
 abbrev pub run_app : App
 run_app =
-    with_rule
-    (queried
-    (with_rule
-    (with_rule
-    (with_rule (with_rule (with_rule (new_app (codes "run")) workers_rule) (flag_rule (codes "watch"))) (flag_rule (codes "stats")))
-    (flag_rule (codes "dot")))
-    end_mark_rule))
-    (word_rule (codes "INPUT"))
+    taking (codes "run")
+    (workers_rule ∷ flag_rule (codes "watch") ∷ flag_rule (codes "stats") ∷ flag_rule (codes "dot") ∷ end_mark_rule
+    ∷ query_rules ++ word_rule (codes "INPUT") ∷ [])
 
 -- `follow QUERY` or `follow QUERY INPUT`, with or without `--workers N`, `--first-epoch E` and `--end-mark`
 abbrev pub follow_app : App
-follow_app =
-    with_rule (queried (with_rule (with_rule (with_rule (new_app (codes "follow")) workers_rule) first_epoch_rule) end_mark_rule))
-    (optional_rule (codes "INPUT"))
+follow_app = taking (codes "follow") (workers_rule ∷ first_epoch_rule ∷ end_mark_rule ∷ query_rules ++ optional_rule (codes "INPUT") ∷ [])
 
 -- `replay QUERY SCHEDULE`, with or without `--workers N` and `--views`
 abbrev pub replay_app : App
-replay_app =
-    with_rule (queried (with_rule (with_rule (new_app (codes "replay")) workers_rule) (flag_rule (codes "views")))) (word_rule (codes "SCHEDULE"))
+replay_app = taking (codes "replay") (workers_rule ∷ flag_rule (codes "views") ∷ query_rules ++ word_rule (codes "SCHEDULE") ∷ [])
 
 -- `explain CODE`
 abbrev pub explain_app : App
-explain_app = with_rule (new_app (codes "explain")) (word_rule (codes "CODE"))
+explain_app = taking (codes "explain") (word_rule (codes "CODE") ∷ [])
 
--- the program, which tells its version
+-- the program, which tells its version and has commands
 abbrev pub program_app : App
-program_app = record (new_app (codes "loom")) { top = record (new_app (codes "loom")).top { has_version = true } }
+program_app = record (new_app (codes "loom")) { top = record (new_app (codes "loom")).top { has_version = true; subcommand_required = true } }
 
--- the whole line; what `encode`, `decode` and `kinds` take is read apart
+-- a line with all commands; what `encode`, `decode` and `kinds` take is read apart
+abbrev pub with_commands : App → App
+with_commands line =
+    fold (λ line command. with_subcommand line command.top) line
+    (run_app ∷ follow_app ∷ check_app ∷ graph_app ∷ format_app ∷ sql_app ∷ replay_app ∷ explain_app
+    ∷ new_app (codes "encode") ∷ new_app (codes "decode") ∷ new_app (codes "kinds") ∷ [])
+
+-- the whole line
 abbrev pub line_app : App
-line_app =
-    let top : App = record { top = record (new_app (codes "loom")).top { subcommand_required = true; has_version = true }; subs = [] } in
-    with_subcommand
-    (with_subcommand
-    (with_subcommand
-    (with_subcommand
-    (with_subcommand
-    (with_subcommand
-    (with_subcommand
-    (with_subcommand (with_subcommand (with_subcommand (with_subcommand top run_app.top) follow_app.top) check_app.top) graph_app.top)
-    format_app.top)
-    sql_app.top)
-    replay_app.top)
-    explain_app.top)
-    (new_app (codes "encode")).top)
-    (new_app (codes "decode")).top)
-    (new_app (codes "kinds")).top
+line_app = with_commands program_app
 
 -- the flag is what the matches hold of it
 abbrev pub IsFlag : Text → List Row → Bool → Type 0

@@ -1,12 +1,9 @@
 //! The commands of the line, read by `clap`.
 
 ghost use Rattle.std.specs.Prelude.{◌≡◌, map, option_map, IfErr, IfOk, IfSome, IsErrOf, codes, false};
-ghost use Rattle.std.specs.Result.{IsOkAnd};
-ghost use Rattle.clap.specs.Words.{app_of, first_of, found_of, new_app, one_of, rows_of, rule_of, with_subcommand};
-ghost use Rattle.clap.specs.declared.builder.Command.TheViews.{out-Command as fields_of};
+ghost use Rattle.clap.specs.Words.{app_of, first_of, found_of, one_of, rows_of};
 ghost use Rattle.command_line.specs.Line.{AreAskedFor, AreStats, AsksTwice, Asks, Holds, HoldsAt, IsAskedDatabase, IsAskedFirst, IsAskedHeap, IsAskedInput, IsAskedQuery, IsFlag, IsForm, IsNumber};
-ghost use Rattle.command_line.specs.Line.{check_app, explain_app, first_epoch_rule, flag_rule, follow_app, format_app, graph_app, inline_rule, line_app, named_rule, queried, sql_app};
-ghost use Rattle.command_line.specs.Line.{optional_rule, program_app, range_rule, replay_app, run_app, word_rule};
+ghost use Rattle.command_line.specs.Line.{line_app, program_app};
 ghost use Rattle.command_line.specs.Faults.{IsOfWords};
 ghost use Rattle.command_line.specs.declared.line_fault.LineFault.TheVariants as fault;
 
@@ -18,366 +15,53 @@ use crate::query::Query;
 use crate::script_form::ScriptForm;
 use crate::standard_input::is_input_twice;
 use crate::unknown_words::told;
+use crate::usage::with_usages;
+use crate::usages::COMMANDS;
 use crate::worker_count::Workers;
-use clap::{Arg, ArgAction, ArgMatches, Command, Error, value_parser};
+use clap::{ArgMatches, Command, Error};
 use std::alloc::{AllocError, Global};
 use std::num::ParseIntError;
 
 /// The program's version.
 const VERSION: &str = "0.1.0";
 
-/// What the help says of the word `QUERY`.
-const QUERY: &str = "The file with the query; - is standard input; with -e the query itself";
-
-/// What the help says of the word `INPUT`.
-const INPUT: &str = "The file with the input; - is standard input";
-
-/// What the help says of the word `SCHEDULE`.
-const SCHEDULE: &str = "The file with the schedule; - is standard input";
-
 /// The last lines of the help: how errors are explained, the statuses, and where the language is described.
 const LAST_LINES: &str =
     "An error is one line; with --explain more lines show its place and what is wrong there\n\
     Exit status: 0 done, 2 command line, 3 query, 4 input or schedule, 5 memory, count or threads, 6 file\nThe language: LANGUAGE.md";
 
-/// A word that has to be given, with its line of help.
-fn word_arg<'a>(alloc: Global, id: &'a str, about: &'a str) -> Arg<'a>
-    ensures rule { rule_of result ≡ word_rule id.entry.now }
-    ensures local { result.global ≡ false }
-{
-    Arg::new(alloc, id).required(true).help(about)
-}
-
-/// A word that may be given, with its line of help.
-fn optional_arg<'a>(alloc: Global, id: &'a str, about: &'a str) -> Arg<'a>
-    ensures rule { rule_of result ≡ optional_rule id.entry.now }
-    ensures local { result.global ≡ false }
-{
-    Arg::new(alloc, id).help(about)
-}
-
-/// A flag: `--` and its name.
-fn flag_arg<'a>(alloc: Global, id: &'a str, about: &'a str) -> Arg<'a>
-    ensures rule { rule_of result ≡ flag_rule id.entry.now }
-    ensures local { result.global ≡ false }
-{
-    Arg::new(alloc, id)
-        .long(id)
-        .action(ArgAction::SetTrue)
-        .help(about)
-}
-
-/// The flag `-e`, or `--inline`.
-fn inline_arg<'a>(alloc: Global) -> Arg<'a>
-    ensures rule { rule_of result ≡ inline_rule }
-    ensures local { result.global ≡ false }
-{
-    flag_arg(alloc, "inline", "QUERY is the query itself, and not a file").short('e')
-}
-
-/// The flag `--explain`.
-fn explain_arg<'a>(alloc: Global) -> Arg<'a>
-    ensures rule { rule_of result ≡ flag_rule (codes "explain") }
-    ensures local { result.global ≡ false }
-{
-    flag_arg(
-        alloc,
-        "explain",
-        "Show where an error is, and what is wrong there",
-    )
-}
-
-/// The flag `--end-mark`.
-fn end_mark_arg<'a>(alloc: Global) -> Arg<'a>
-    ensures rule { rule_of result ≡ flag_rule (codes "end-mark") }
-    ensures local { result.global ≡ false }
-{
-    flag_arg(
-        alloc,
-        "end-mark",
-        "The input has to end with a line 'end', or it was cut off",
-    )
-}
-
-/// The option `--workers N`.
-fn workers_arg<'a>(alloc: Global) -> Arg<'a>
-    ensures rule { rule_of result ≡ range_rule (codes "workers") 1 64 }
-    ensures local { result.global ≡ false }
-{
-    Arg::new(alloc, "workers")
-        .long("workers")
-        .value_name("N")
-        .value_parser(value_parser!(u64).range(1..=64))
-        .help("Number of workers, 1 to 64; default 1")
-}
-
-/// The option `--first-epoch E`.
-fn first_epoch_arg<'a>(alloc: Global) -> Arg<'a>
-    ensures rule { rule_of result ≡ first_epoch_rule }
-    ensures local { result.global ≡ false }
-{
-    Arg::new(alloc, "first-epoch")
-        .long("first-epoch")
-        .value_name("E")
-        .value_parser(value_parser!(u64).range(0..=9_223_372_036_854_775_807))
-        .help("What the first epoch is called; default 0")
-}
-
-/// An option: `--` and its name, and then a word.
-fn named_arg<'a>(alloc: Global, id: &'a str, about: &'a str) -> Arg<'a>
-    ensures rule { rule_of result ≡ named_rule id.entry.now }
-    ensures local { result.global ≡ false }
-{
-    Arg::new(alloc, id).long(id).value_name("NAME").help(about)
-}
-
-/// The option `--heap BYTES`.
-fn heap_arg<'a>(alloc: Global) -> Arg<'a>
-    ensures rule { rule_of result ≡ range_rule (codes "heap") 64 16777216 }
-    ensures local { result.global ≡ false }
-{
-    Arg::new(alloc, "heap")
-        .long("heap")
-        .value_name("BYTES")
-        .value_parser(value_parser!(u64).range(64..=16_777_216))
-        .help("Keep the query's tree in a heap of BYTES bytes, 64 to 16777216")
-}
-
-/// The command with the flags for a fault and for a query on the line, and the word of the query.
-fn with_query<'a>(alloc: Global, command: Command<'a>) -> Result<Command<'a>, AllocError>
-    ensures app { IfOk result (λ c. app_of c ≡ queried (app_of command.entry)) }
-    ensures local { IfOk result (λ c. (fields_of c).has_globals ≡ (fields_of command.entry).has_globals) }
-{
-    command
-        .arg(explain_arg(alloc))?
-        .arg(inline_arg(alloc))?
-        .arg(word_arg(alloc, "QUERY", QUERY))
-}
-
-/// A command of that name, with its line of help.
-fn named<'a>(alloc: Global, name: &'a str, about: &'a str) -> Command<'a>
-    ensures app { app_of result ≡ new_app name.entry.now }
-    ensures local { (fields_of result).has_globals ≡ false }
-{
-    Command::new(alloc, name).about(about)
-}
-
-fn check_command<'a>(alloc: Global) -> Result<Command<'a>, AllocError>
-    ensures app { IfOk result (λ c. app_of c ≡ check_app) }
-    ensures local { IfOk result (λ c. (fields_of c).has_globals ≡ false) }
-{
-    let command = named(
-        alloc,
-        "check",
-        "Check a query, and an input if given; print the number of fields of each",
-    );
-    with_query(alloc, command.arg(heap_arg(alloc))?)?.arg(optional_arg(
-        alloc,
-        "INPUT",
-        "An input to check too; - is standard input",
-    ))
-}
-
-fn graph_command<'a>(alloc: Global) -> Result<Command<'a>, AllocError>
-    ensures app { IfOk result (λ c. app_of c ≡ graph_app) }
-    ensures local { IfOk result (λ c. (fields_of c).has_globals ≡ false) }
-{
-    let command = named(
-        alloc,
-        "graph",
-        "Compile a query, and write its dataflow graph",
-    );
-    let command = command
-        .arg(flag_arg(alloc, "dot", "Write the graph for Graphviz to draw"))?
-        .arg(heap_arg(alloc))?;
-    with_query(alloc, command)
-}
-
-fn format_command<'a>(alloc: Global) -> Result<Command<'a>, AllocError>
-    ensures app { IfOk result (λ c. app_of c ≡ format_app) }
-    ensures local { IfOk result (λ c. (fields_of c).has_globals ≡ false) }
-{
-    with_query(
-        alloc,
-        named(alloc, "format", "Write a query in its canonical form"),
-    )
-}
-
-fn sql_command<'a>(alloc: Global) -> Result<Command<'a>, AllocError>
-    ensures app { IfOk result (λ c. app_of c ≡ sql_app) }
-    ensures local { IfOk result (λ c. (fields_of c).has_globals ≡ false) }
-{
-    let command = named(alloc, "sql", "Write a query as a script of SQL");
-    let command = command
-        .arg(flag_arg(
-            alloc,
-            "with",
-            "One statement in place of a script, for PostgreSQL",
-        ))?
-        .arg(flag_arg(
-            alloc,
-            "wrapped",
-            "Wrap numbers at 64 bits; else one of more bits ends the script with an error",
-        ))?
-        .arg(flag_arg(
-            alloc,
-            "epochs",
-            "All epochs at once: the first column of each table is the epoch",
-        ))?
-        .arg(named_arg(
-            alloc,
-            "dialect",
-            "The database: postgres, sqlite or spark; default postgres",
-        ))?
-        .arg(named_arg(
-            alloc,
-            "output",
-            "Only the output of that name, and the tables that it needs",
-        ))?;
-    with_query(alloc, command)
-}
-
-fn run_command<'a>(alloc: Global) -> Result<Command<'a>, AllocError>
-    ensures app { IfOk result (λ c. app_of c ≡ run_app) }
-    ensures local { IfOk result (λ c. (fields_of c).has_globals ≡ false) }
-{
-    let command = named(
-        alloc,
-        "run",
-        "Answer a query over an input; over CSV files: loom run --help --schema",
-    )
-    .arg(workers_arg(alloc))?
-    .arg(flag_arg(
-        alloc,
-        "watch",
-        "Report on standard error how many epochs have passed",
-    ))?
-    .arg(flag_arg(
-        alloc,
-        "stats",
-        "After the run, report on standard error what each vertex did",
-    ))?
-    .arg(flag_arg(
-        alloc,
-        "dot",
-        "The same as --stats, in a drawing for Graphviz",
-    ))?
-    .arg(end_mark_arg(alloc))?;
-    with_query(alloc, command)?.arg(word_arg(alloc, "INPUT", INPUT))
-}
-
-fn follow_command<'a>(alloc: Global) -> Result<Command<'a>, AllocError>
-    ensures app { IfOk result (λ c. app_of c ≡ follow_app) }
-    ensures local { IfOk result (λ c. (fields_of c).has_globals ≡ false) }
-{
-    let command = named(
-        alloc,
-        "follow",
-        "Answer a query as its input arrives, and report each complete epoch",
-    );
-    let command = command
-        .arg(workers_arg(alloc))?
-        .arg(first_epoch_arg(alloc))?
-        .arg(end_mark_arg(alloc))?;
-    with_query(alloc, command)?.arg(optional_arg(
-        alloc,
-        "INPUT",
-        "The file with the input; without it, and with -, standard input",
-    ))
-}
-
-fn replay_command<'a>(alloc: Global) -> Result<Command<'a>, AllocError>
-    ensures app { IfOk result (λ c. app_of c ≡ replay_app) }
-    ensures local { IfOk result (λ c. (fields_of c).has_globals ≡ false) }
-{
-    let command = named(
-        alloc,
-        "replay",
-        "Run a schedule step by step, and print what it asks for",
-    );
-    let command = command.arg(workers_arg(alloc))?.arg(flag_arg(
-        alloc,
-        "views",
-        "Give each worker a view of its own; lines `v W S` bring it up to date",
-    ))?;
-    with_query(alloc, command)?.arg(word_arg(alloc, "SCHEDULE", SCHEDULE))
-}
-
-fn explain_command<'a>(alloc: Global) -> Result<Command<'a>, AllocError>
-    ensures app { IfOk result (λ c. app_of c ≡ explain_app) }
-    ensures local { IfOk result (λ c. (fields_of c).has_globals ≡ false) }
-{
-    named(alloc, "explain", "Explain an error number, with examples").arg(word_arg(
-        alloc,
-        "CODE",
-        "An error number, such as 13",
-    ))
-}
-
 /// The program's own command, with its version and the last lines of its help.
 fn program<'a>(alloc: Global) -> Command<'a>
-    ensures app { app_of result ≡ program_app }
+    ensures { app_of result ≡ program_app }
 {
     Command::new(alloc, "loom")
         .version(VERSION)
         .after_help(LAST_LINES)
+        .subcommand_required(true)
 }
 
-/// A command with one more below it, where that could be made.
-fn with_command<'a>(
-    line: Command<'a>,
-    made: Result<Command<'a>, AllocError>,
-) -> Result<Command<'a>, AllocError>
-    ensures { IfOk result (λ r. IsOkAnd made.entry
-        (λ c. (fields_of c).has_globals ≡ false → app_of r ≡ with_subcommand (app_of line.entry) (app_of c).top)) }
-{
-    match made {
-        Ok(command) => line.subcommand(command),
-        Err(error) => Err(error),
-    }
-}
-
-pub fn line_command<'a>(alloc: Global) -> Result<Command<'a>, AllocError>
+fn line_command<'a>(alloc: Global) -> Result<Command<'a>, AllocError>
     ensures { IfOk result (λ c. app_of c ≡ line_app) }
 {
-    let line = program(alloc).subcommand_required(true);
-    let line = with_command(line, run_command(alloc))?;
-    let line = with_command(line, follow_command(alloc))?;
-    let line = with_command(line, check_command(alloc))?;
-    let line = with_command(line, graph_command(alloc))?;
-    let line = with_command(line, format_command(alloc))?;
-    let line = with_command(line, sql_command(alloc))?;
-    let line = with_command(line, replay_command(alloc))?;
-    with_command(line, explain_command(alloc))?
-        .subcommand(named(alloc, "encode", "Write CSV files as an input, by a schema"))?
-        .subcommand(named(
-            alloc,
-            "decode",
-            "Write an answer as a CSV file, by a schema",
-        ))?
-        .subcommand(named(
-            alloc,
-            "kinds",
-            "Say what a query's fields stand for, by a schema",
-        ))
+    with_usages(alloc, program(alloc), COMMANDS)
 }
 
 /// The first text of an argument.
-fn text_of<'a>(found: &ArgMatches<'a>, id: &str) -> Option<&'a str>
+pub fn text_of<'a>(found: &ArgMatches<'a>, id: &str) -> Option<&'a str>
     ensures { option_map (λ s. s.now) result ≡ first_of id.now (rows_of (found_of found.now)) }
 {
     found.get_str(id)
 }
 
 /// Whether the flag is given.
-fn flag_of<'a>(found: &ArgMatches<'a>, id: &str) -> bool
+pub fn flag_of<'a>(found: &ArgMatches<'a>, id: &str) -> bool
     ensures { IsFlag id.now (rows_of (found_of found.now)) result }
 {
     found.get_flag(id)
 }
 
 /// The query, by its word, and whether that is the query itself.
-fn query_of<'a>(found: &ArgMatches<'a>) -> Option<Query<'a>>
+pub fn query_of<'a>(found: &ArgMatches<'a>) -> Option<Query<'a>>
     ensures { IfSome result (IsAskedQuery (rows_of (found_of found.now))) }
 {
     let word = text_of(found, "QUERY")?;
@@ -414,7 +98,7 @@ fn first_epoch_of(found: &ArgMatches<'_>) -> Option<FirstEpoch>
 }
 
 /// The number of workers: one if no word says it.
-fn workers_of(found: &ArgMatches<'_>) -> Option<Workers>
+pub fn workers_of(found: &ArgMatches<'_>) -> Option<Workers>
     ensures { IfSome result (λ w. AreAskedFor (one_of (codes "workers") (rows_of (found_of found.now))) w.count) }
 {
     match number_of(found, "workers") {

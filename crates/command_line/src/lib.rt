@@ -14,13 +14,17 @@ mod query;
 mod script_form;
 mod standard_input;
 mod unknown_words;
+mod usage;
+mod usages;
 mod worker_count;
 
-pub use command::options;
+pub use command::{flag_of, options, query_of, text_of, workers_of};
 pub use first_epoch::FirstEpoch;
 pub use heap_size::HeapSize;
 pub use line_fault::LineFault;
 pub use line_options::{GraphForm, Options};
 pub use query::Query;
 pub use script_form::ScriptForm;
+pub use usage::{Form, Parameter, Usage, with_usages};
+pub use usages::{EXPLAIN, INLINE, QUERY, WORKERS};
 pub use worker_count::Workers;

@@ -4,10 +4,11 @@
 ghost use Rattle.std.specs.Prelude.{◌≡◌, IfOk, IfSome};
 ghost use Rattle.command_line.specs.Faults.{IsOfWords};
 
-use crate::command::line_command;
 use crate::line_fault::LineFault;
+use crate::usage::Usage;
+use crate::usages::COMMANDS;
+use clap::Error;
 use clap::error::ErrorKind;
-use clap::{Command, Error};
 use std::alloc::{AllocError, Global};
 
 /// The text between two others, of which the first is at the beginning.
@@ -30,54 +31,54 @@ fn used_command(text: &str) -> Option<&str> {
 }
 
 /// Whether a command takes an option of that name.
-fn is_taken(command: &Command<'_>, option: &str) -> bool {
-    command
-        .get_arguments()
-        .iter()
-        .any(|arg| arg.get_long() == Some(option))
+fn is_taken(usage: &Usage<'_>, option: &str) -> bool {
+    for parameter in usage.parameters {
+        if parameter.option_name() == Some(option) {
+            return true;
+        }
+    }
+    false
 }
 
 /// The names of the commands that take an option.
-fn owners<'a>(alloc: Global, line: &Command<'a>, option: &str) -> Result<Vec<&'a str>, AllocError> {
+fn owners<'a>(
+    alloc: Global,
+    usages: &[Usage<'a>],
+    option: &str,
+) -> Result<Vec<&'a str>, AllocError> {
     let mut names = Vec::new(alloc);
-    for command in line.get_subcommands() {
-        if is_taken(command, option) {
-            names.push(command.get_name())?;
+    for usage in usages {
+        if is_taken(usage, option) {
+            names.push(usage.name)?;
         }
     }
     Ok(names)
 }
 
-/// Puts the options of a command behind others.
-fn push_options<'a>(options: &mut Vec<&'a str>, command: &Command<'a>) -> Result<(), AllocError> {
-    for arg in command.get_arguments() {
-        if let Some(option) = arg.get_long() {
-            options.push(option)?;
-        }
-    }
-    Ok(())
-}
-
 /// The options of a command, by its name.
 fn options_of<'a>(
     alloc: Global,
-    line: &Command<'a>,
+    usages: &[Usage<'a>],
     command: &str,
 ) -> Result<Vec<&'a str>, AllocError> {
     let mut options = Vec::new(alloc);
-    for known in line.get_subcommands() {
-        if known.get_name() == command {
-            push_options(&mut options, known)?;
+    for usage in usages {
+        if usage.name == command {
+            for parameter in usage.parameters {
+                if let Some(option) = parameter.option_name() {
+                    options.push(option)?;
+                }
+            }
         }
     }
     Ok(options)
 }
 
 /// The names of the commands.
-fn command_names<'a>(alloc: Global, line: &Command<'a>) -> Result<Vec<&'a str>, AllocError> {
+fn command_names<'a>(alloc: Global, usages: &[Usage<'a>]) -> Result<Vec<&'a str>, AllocError> {
     let mut names = Vec::new(alloc);
-    for command in line.get_subcommands() {
-        names.push(command.get_name())?;
+    for usage in usages {
+        names.push(usage.name)?;
     }
     Ok(names)
 }
@@ -133,7 +134,7 @@ fn option_of_none(
 /// The same, by the text of clap's error, if no option of the command is similar.
 fn unknown_option(
     alloc: Global,
-    line: &Command<'_>,
+    usages: &[Usage<'_>],
     text: &str,
 ) -> Result<Option<LineFault>, AllocError>
     ensures { IfOk result (λ told. IfSome told IsOfWords) }
@@ -144,7 +145,7 @@ fn unknown_option(
     let Some(command) = used_command(text) else {
         return Ok(None);
     };
-    let options = options_of(alloc, line, command)?;
+    let options = options_of(alloc, usages, command)?;
     if options.is_empty() || text.contains("a similar argument exists") {
         return Ok(None);
     }
@@ -154,24 +155,24 @@ fn unknown_option(
 /// The fault of a word that the command doesn't know.
 fn unknown_argument(
     alloc: Global,
-    line: &Command<'_>,
+    usages: &[Usage<'_>],
     text: &str,
 ) -> Result<Option<LineFault>, AllocError>
     ensures { IfOk result (λ told. IfSome told IsOfWords) }
 {
     if let Some(option) = unexpected_option(text) {
-        let owners = owners(alloc, line, option)?;
+        let owners = owners(alloc, usages, option)?;
         if !owners.is_empty() {
             return misplaced_option(alloc, option, owners.as_slice());
         }
     }
-    unknown_option(alloc, line, text)
+    unknown_option(alloc, usages, text)
 }
 
 /// The fault of a first word that is no command, if no command is similar.
 fn unrecognized_word(
     alloc: Global,
-    line: &Command<'_>,
+    usages: &[Usage<'_>],
     text: &str,
 ) -> Result<Option<LineFault>, AllocError>
     ensures { IfOk result (λ told. IfSome told IsOfWords) }
@@ -183,7 +184,7 @@ fn unrecognized_word(
         return Ok(None);
     }
     let word = String::from_str(alloc, word)?;
-    let commands = listed(alloc, "loom ", command_names(alloc, line)?.as_slice())?;
+    let commands = listed(alloc, "loom ", command_names(alloc, usages)?.as_slice())?;
     Ok(Some(LineFault::Unrecognized { word, commands }))
 }
 
@@ -213,8 +214,8 @@ fn told_of(alloc: Global, kind: ErrorKind, text: &str) -> Result<Option<LineFaul
 {
     match kind {
         ErrorKind::ValueValidation => word_out_of_range(alloc, text),
-        ErrorKind::UnknownArgument => unknown_argument(alloc, &line_command(alloc)?, text),
-        ErrorKind::InvalidSubcommand => unrecognized_word(alloc, &line_command(alloc)?, text),
+        ErrorKind::UnknownArgument => unknown_argument(alloc, COMMANDS, text),
+        ErrorKind::InvalidSubcommand => unrecognized_word(alloc, COMMANDS, text),
         _ => Ok(None),
     }
 }

@@ -1,12 +1,10 @@
 -- The command that was found, with its matches, is the one that the words name.
-use Rattle.std.proofs.Common.{◌≡◌, ◌⊎◌, List, Option, Some, None, Result, Ok, Err, IfOk, option_map, refl, sym, subst, ◌∙◌}
+use Rattle.std.proofs.Common.{◌≡◌, ◌⊎◌, List, Option, Some, None, option_map, refl, sym, subst, ◌∙◌}
 use Rattle.std.specs.Prelude.{IfSome, codes}
-use Rattle.std.specs.Result.{IsOkAnd}
 use Rattle.std.specs.Box.{box_value}
-use Rattle.clap.specs.Words.{Row, Text, app_of, found_of, rows_of, subcommand_rows}
+use Rattle.clap.specs.Words.{Row, Text, found_of, rows_of, subcommand_rows}
 use Rattle.clap.specs.Simple.{HasMatchesOf}
 use Rattle.clap.specs.Matches.{subcommand_name_of}
-use Rattle.clap.specs.declared.builder.Command.{Command}
 use Rattle.clap.specs.declared.parser.matches.ArgMatches.{ArgMatches}
 use Rattle.clap.specs.declared.parser.matches.ArgMatches.TheViews.{out-ArgMatches, out-SubCommand}
 use Rattle.schema_words.specs.Line.{AsksRun, HoldsRun, HoldsRunOf, run_line}
@@ -15,12 +13,6 @@ use Rattle.schema_words.specs.declared.run_line.TableRun.{TableRun}
 pub if-some : {X : Type 0} {P Q : X → Type 0} → (o : Option X) → ((x : X) → P x → Q x) → IfSome o P → IfSome o Q
 if-some None f p = tt
 if-some (Some x) f p = f x p
-
--- the words were matched by the line's command, if it was made
-pub matched : {E : Type 0} (made : Result Command E) (words : List Text) (m : ArgMatches) → IfOk made (λ c. app_of c ≡ run_line)
-    → IsOkAnd made (λ c. HasMatchesOf (app_of c) words m) → HasMatchesOf run_line words m
-matched (Ok c) words m e has = subst (λ a. HasMatchesOf a words m) e has
-matched (Err e) words m is has = absurd has
 
 -- a pair of which both parts are known
 both : {X : Type 0} (found : Option X) (f : X → Text) (g : X → List Row) (name : Text) (rows : List Row) → Some name ≡ option_map f found

@@ -1,32 +1,24 @@
 -- The words of `check`, `run` and `follow` with the option `--schema`: the commands, and what the matches of the words hold.
-use Rattle.std.specs.Prelude.{◌≡◌, ◌⊎◌, List, [], Option, Some, None, true, codes, map, option_map}
-use Rattle.clap.specs.Words.{App, Row, Rule, Text, all_of, first_of, new_app, one_of, subcommand_of, with_rule, with_subcommand}
-use Rattle.command_line.specs.Line.{AreAskedFor, IsAskedQuery, IsFlag, named_rule, queried, workers_rule}
-use Rattle.table_words.specs.Line.{words_rule}
+use Rattle.std.specs.Prelude.{◌≡◌, ◌⊎◌, ◌++◌, ◌∷◌, List, [], Option, Some, None, codes, map, option_map}
+use Rattle.clap.specs.Words.{App, Row, Rule, Text, all_of, first_of, one_of, subcommand_of, with_subcommand}
+use Rattle.command_line.specs.Line.{AreAskedFor, IsAskedQuery, IsFlag, named_rule, query_rules, required_rule, taking, words_rule, workers_rule}
+use Rattle.table_words.specs.Line.{top_app}
 use Rattle.schema_words.specs.declared.check_line.TableCheck.{TableCheck}
 use Rattle.schema_words.specs.declared.run_line.TableRun.{TableRun}
 
 -- `--schema SCHEMA`, which has to be given
 abbrev pub schema_rule : Rule
-schema_rule = record (named_rule (codes "schema")) { required = true }
+schema_rule = required_rule (codes "schema")
 
 -- `check --schema SCHEMA QUERY`
 abbrev pub check_app : App
-check_app = queried (with_rule (new_app (codes "check")) schema_rule)
+check_app = taking (codes "check") (schema_rule ∷ query_rules)
 
 -- `NAME --schema SCHEMA QUERY NAME=FILE ..`, with or without `--dictionary FILE`, `--output NAME` and `--workers N`
 abbrev pub run_app : Text → App
 run_app name =
-    with_rule
-    (queried
-    (with_rule
-    (with_rule (with_rule (with_rule (new_app name) schema_rule) (named_rule (codes "dictionary"))) (named_rule (codes "output")))
-    workers_rule))
-    (words_rule (codes "NAME=FILE"))
-
--- the program, with a command
-abbrev pub top_app : App
-top_app = record { top = record (new_app (codes "loom")).top { subcommand_required = true }; subs = [] }
+    taking name
+    (schema_rule ∷ named_rule (codes "dictionary") ∷ named_rule (codes "output") ∷ workers_rule ∷ query_rules ++ words_rule (codes "NAME=FILE") ∷ [])
 
 abbrev pub check_line : App
 check_line = with_subcommand top_app check_app.top

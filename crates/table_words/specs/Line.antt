@@ -1,62 +1,38 @@
 -- The words of `encode`, `decode` and `kinds`: the commands, and what the matches of the words hold.
-use Rattle.std.specs.Prelude.{◌≡◌, List, [], Option, Some, None, Bool, true, false, codes, map, option_map}
-use Rattle.clap.specs.declared.builder.action.ArgAction.TheVariants.{SetTrue}
-use Rattle.clap.specs.Lexer.{usize_max}
-use Rattle.clap.specs.Words.{App, Row, Rule, Text, all_of, first_of, new_app, new_rule, one_of, subcommand_of, with_rule, with_subcommand}
+use Rattle.std.specs.Prelude.{◌≡◌, ◌∷◌, List, [], Option, Some, None, true, codes, map, option_map}
+use Rattle.clap.specs.Words.{App, Row, Text, all_of, first_of, new_app, subcommand_of, with_subcommand}
+use Rattle.command_line.specs.Line.{IsFlag, flag_rule, named_rule, optional_rule, taking, word_rule, words_rule}
 use Rattle.table_words.specs.declared.line.Asked.{Asked}
 use Rattle.table_words.specs.declared.line.Asked.TheVariants.{Encode, Decode, Kinds}
-
--- a word that has to be given
-abbrev pub word_rule : Text → Rule
-word_rule id = record (new_rule id) { required = true }
-
--- an option, `--` and its name, and then a word
-abbrev pub named_rule : Text → Rule
-named_rule id = record (new_rule id) { long = Some id; value_names = 1 }
-
--- a flag, `--` and its name
-abbrev pub flag_rule : Text → Rule
-flag_rule id = record (new_rule id) { long = Some id; action = Some SetTrue }
-
--- one word or more
-abbrev pub words_rule : Text → Rule
-words_rule id = record (word_rule id) { range = Some (record { start_inclusive = 1; end_inclusive = usize_max }) }
 
 -- `encode SCHEMA NAME=FILE ..`, with or without `--dictionary FILE` and `--end-mark`
 abbrev pub encode_app : App
 encode_app =
-    with_rule
-    (with_rule (with_rule (with_rule (new_app (codes "encode")) (named_rule (codes "dictionary"))) (flag_rule (codes "end-mark")))
-    (word_rule (codes "SCHEMA")))
-    (words_rule (codes "NAME=FILE"))
+    taking (codes "encode")
+    (named_rule (codes "dictionary") ∷ flag_rule (codes "end-mark") ∷ word_rule (codes "SCHEMA") ∷ words_rule (codes "NAME=FILE") ∷ [])
 
 -- `decode SCHEMA` or `decode SCHEMA ANSWER`, with or without `--dictionary FILE` and `--output NAME`
 abbrev pub decode_app : App
 decode_app =
-    with_rule
-    (with_rule (with_rule (with_rule (new_app (codes "decode")) (named_rule (codes "dictionary"))) (named_rule (codes "output")))
-    (word_rule (codes "SCHEMA")))
-    (new_rule (codes "ANSWER"))
+    taking (codes "decode")
+    (named_rule (codes "dictionary") ∷ named_rule (codes "output") ∷ word_rule (codes "SCHEMA") ∷ optional_rule (codes "ANSWER") ∷ [])
 
 -- `kinds SCHEMA QUERY`
 abbrev pub kinds_app : App
-kinds_app = with_rule (with_rule (new_app (codes "kinds")) (word_rule (codes "SCHEMA"))) (word_rule (codes "QUERY"))
+kinds_app = taking (codes "kinds") (word_rule (codes "SCHEMA") ∷ word_rule (codes "QUERY") ∷ [])
+
+-- the program, with a command
+abbrev pub top_app : App
+top_app = record { top = record (new_app (codes "loom")).top { subcommand_required = true }; subs = [] }
 
 -- the whole line
 abbrev pub line_app : App
-line_app =
-    let top : App = record { top = record (new_app (codes "loom")).top { subcommand_required = true }; subs = [] } in
-    with_subcommand (with_subcommand (with_subcommand top encode_app.top) decode_app.top) kinds_app.top
+line_app = with_subcommand (with_subcommand (with_subcommand top_app encode_app.top) decode_app.top) kinds_app.top
 
 -- the answer that is named; standard input where none is
 abbrev pub IsAskedAnswer : Option Text → Text → Type 0
 IsAskedAnswer None answer = answer ≡ codes "-"
 IsAskedAnswer (Some word) answer = answer ≡ word
-
--- a flag is given or not
-abbrev pub IsFlag : Text → List Row → Bool → Type 0
-IsFlag id rows flag =
-    (one_of id rows ≡ Some (codes "true") → flag ≡ true) × (one_of id rows ≡ Some (codes "false") → flag ≡ false) × (one_of id rows ≡ None → flag ≡ false)
 
 -- what is asked for is what the matches of a command hold
 abbrev pub HoldsAt : Text → List Row → Asked → Type 0

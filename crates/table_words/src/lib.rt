@@ -4,6 +4,6 @@
 mod line;
 
 pub use line::{
-    Asked, Decoding, LineError, Listing, dictionary_arg, files_arg, matches_of, output_arg,
-    read_words, text_of, texts_of, with_command,
+    Asked, DICTIONARY, Decoding, FILES, LineError, Listing, OUTPUT, matches_of, read_words,
+    texts_of,
 };

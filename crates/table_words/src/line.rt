@@ -1,13 +1,13 @@
 //! The words of `encode`, `decode` and `kinds`, read by `clap`.
 
-ghost use Rattle.std.specs.Prelude.{◌≡◌, IfOk, IfSome, codes, false, map, option_map};
-ghost use Rattle.std.specs.Result.{IsOkAnd};
-ghost use Rattle.clap.specs.Words.{HasMatchesOf, all_of, app_of, first_of, found_of, new_app, new_rule, rows_of, rule_of, with_subcommand};
-ghost use Rattle.clap.specs.declared.builder.Command.TheViews.{out-Command as fields_of};
-ghost use Rattle.table_words.specs.Line.{Asks, HoldsAt, IsFlag, decode_app, encode_app, flag_rule, kinds_app, line_app, named_rule, word_rule, words_rule};
+ghost use Rattle.std.specs.Prelude.{◌≡◌, IfOk, IfSome, codes, map, option_map};
+ghost use Rattle.clap.specs.Words.{HasMatchesOf, all_of, found_of, rows_of};
+ghost use Rattle.command_line.specs.Usages.{with_usages};
+ghost use Rattle.table_words.specs.Line.{Asks, HoldsAt, line_app, top_app};
 
 use clap::error::ErrorKind;
-use clap::{Arg, ArgAction, ArgMatches, Command, Error};
+use clap::{ArgMatches, Command, Error};
+use command_line::{Form, Parameter, Usage, flag_of, text_of, with_usages};
 use std::alloc::{AllocError, Global};
 
 /// What `decode` is asked for.
@@ -56,175 +56,83 @@ impl From<AllocError> for LineError {
 }
 
 /// The option `--dictionary FILE`.
-pub fn dictionary_arg<'a>(alloc: Global) -> Arg<'a>
-    ensures rule { rule_of result ≡ named_rule (codes "dictionary") }
-    ensures local { result.global ≡ false }
-{
-    Arg::new(alloc, "dictionary")
-        .long("dictionary")
-        .value_name("FILE")
-        .help("The file that keeps the numbers of texts")
-}
+pub const DICTIONARY: Parameter<'static> = Parameter {
+    name: "dictionary",
+    form: Form::Named("FILE"),
+    about: "The file that keeps the numbers of texts",
+};
 
 /// The option `--output NAME`.
-pub fn output_arg<'a>(alloc: Global) -> Arg<'a>
-    ensures rule { rule_of result ≡ named_rule (codes "output") }
-    ensures local { result.global ≡ false }
-{
-    Arg::new(alloc, "output")
-        .long("output")
-        .value_name("NAME")
-        .help("The output, if the schema has several")
-}
-
-/// The flag `--end-mark`.
-fn end_mark_arg<'a>(alloc: Global) -> Arg<'a>
-    ensures rule { rule_of result ≡ flag_rule (codes "end-mark") }
-    ensures local { result.global ≡ false }
-{
-    Arg::new(alloc, "end-mark")
-        .long("end-mark")
-        .action(ArgAction::SetTrue)
-        .help("End the input with a line 'end', for run --end-mark")
-}
+pub const OUTPUT: Parameter<'static> = Parameter {
+    name: "output",
+    form: Form::Named("NAME"),
+    about: "The output, if the schema has several",
+};
 
 /// The words of the inputs' files.
-pub fn files_arg<'a>(alloc: Global) -> Arg<'a>
-    ensures rule { rule_of result ≡ words_rule (codes "NAME=FILE") }
-    ensures local { result.global ≡ false }
-{
-    Arg::new(alloc, "NAME=FILE")
-        .required(true)
-        .num_args(1..)
-        .help("An input's name, =, and its CSV file; - is standard input")
-}
+pub const FILES: Parameter<'static> = Parameter {
+    name: "NAME=FILE",
+    form: Form::Words,
+    about: "An input's name, =, and its CSV file; - is standard input",
+};
 
 /// The word of the schema.
-fn schema_arg<'a>(alloc: Global) -> Arg<'a>
-    ensures rule { rule_of result ≡ word_rule (codes "SCHEMA") }
-    ensures local { result.global ≡ false }
-{
-    Arg::new(alloc, "SCHEMA")
-        .required(true)
-        .help("The file with the schema; - is standard input")
-}
+const SCHEMA: Parameter<'static> = Parameter {
+    name: "SCHEMA",
+    form: Form::Word,
+    about: "The file with the schema; - is standard input",
+};
 
-/// The word of the query.
-fn query_arg<'a>(alloc: Global) -> Arg<'a>
-    ensures rule { rule_of result ≡ word_rule (codes "QUERY") }
-    ensures local { result.global ≡ false }
-{
-    Arg::new(alloc, "QUERY")
-        .required(true)
-        .help("The file with the query; - is standard input")
-}
+const ENCODE: Usage<'static> = Usage {
+    name: "encode",
+    about: "Write CSV files as an input, by a schema",
+    parameters: &[
+        DICTIONARY,
+        Parameter {
+            name: "end-mark",
+            form: Form::Flag,
+            about: "End the input with a line 'end', for run --end-mark",
+        },
+        SCHEMA,
+        FILES,
+    ],
+};
 
-/// The word of the answer.
-fn answer_arg<'a>(alloc: Global) -> Arg<'a>
-    ensures rule { rule_of result ≡ new_rule (codes "ANSWER") }
-    ensures local { result.global ≡ false }
-{
-    Arg::new(alloc, "ANSWER").help(
-        "The file with the answer; without it, and with -, standard input",
-    )
-}
+const DECODE: Usage<'static> = Usage {
+    name: "decode",
+    about: "Write an answer as a CSV file, by a schema",
+    parameters: &[
+        DICTIONARY,
+        OUTPUT,
+        SCHEMA,
+        Parameter {
+            name: "ANSWER",
+            form: Form::OptionalWord,
+            about: "The file with the answer; without it, and with -, standard input",
+        },
+    ],
+};
 
-/// A command of that name, with its line of help.
-fn named<'a>(alloc: Global, name: &'a str, about: &'a str) -> Command<'a>
-    ensures app { app_of result ≡ new_app name.entry.now }
-    ensures local { (fields_of result).has_globals ≡ false }
-{
-    Command::new(alloc, name).about(about)
-}
+const KINDS: Usage<'static> = Usage {
+    name: "kinds",
+    about: "Check what a query computes by a schema, and say what its fields stand for",
+    parameters: &[
+        SCHEMA,
+        Parameter {
+            name: "QUERY",
+            form: Form::Word,
+            about: "The file with the query; - is standard input",
+        },
+    ],
+};
 
-fn encode_command<'a>(alloc: Global) -> Result<Command<'a>, AllocError>
-    ensures app { IfOk result (λ c. app_of c ≡ encode_app) }
-    ensures local { IfOk result (λ c. (fields_of c).has_globals ≡ false) }
-{
-    named(alloc, "encode", "Write CSV files as an input, by a schema")
-        .arg(dictionary_arg(alloc))?
-        .arg(end_mark_arg(alloc))?
-        .arg(schema_arg(alloc))?
-        .arg(files_arg(alloc))
-}
-
-fn decode_command<'a>(alloc: Global) -> Result<Command<'a>, AllocError>
-    ensures app { IfOk result (λ c. app_of c ≡ decode_app) }
-    ensures local { IfOk result (λ c. (fields_of c).has_globals ≡ false) }
-{
-    named(
-        alloc,
-        "decode",
-        "Write an answer as a CSV file, by a schema",
-    )
-    .arg(dictionary_arg(alloc))?
-    .arg(output_arg(alloc))?
-    .arg(schema_arg(alloc))?
-    .arg(answer_arg(alloc))
-}
-
-fn kinds_command<'a>(alloc: Global) -> Result<Command<'a>, AllocError>
-    ensures app { IfOk result (λ c. app_of c ≡ kinds_app) }
-    ensures local { IfOk result (λ c. (fields_of c).has_globals ≡ false) }
-{
-    named(
-        alloc,
-        "kinds",
-        "Check what a query computes by a schema, and say what its fields stand for",
-    )
-    .arg(schema_arg(alloc))?
-    .arg(query_arg(alloc))
-}
-
-/// A command with one more below it, where that could be made.
-pub fn with_command<'a>(
-    line: Command<'a>,
-    made: Result<Command<'a>, AllocError>,
-) -> Result<Command<'a>, AllocError>
-    ensures { IfOk result (λ r. IsOkAnd made.entry
-        (λ c. (fields_of c).has_globals ≡ false → app_of r ≡ with_subcommand (app_of line.entry) (app_of c).top)) }
-{
-    match made {
-        Ok(command) => line.subcommand(command),
-        Err(error) => Err(error),
-    }
-}
-
-/// The program's own command.
-fn program<'a>(alloc: Global) -> Command<'a>
-    ensures { app_of result ≡ new_app (codes "loom") }
-{
-    Command::new(alloc, "loom")
-}
-
-fn line_command<'a>(alloc: Global) -> Result<Command<'a>, AllocError>
-    ensures { IfOk result (λ c. app_of c ≡ line_app) }
-{
-    let line = program(alloc).subcommand_required(true);
-    let line = with_command(line, encode_command(alloc))?;
-    let line = with_command(line, decode_command(alloc))?;
-    with_command(line, kinds_command(alloc))
-}
-
-/// The first text of an argument.
-pub fn text_of<'a>(found: &ArgMatches<'a>, id: &str) -> Option<&'a str>
-    ensures { option_map (λ s. s.now) result ≡ first_of id.now (rows_of (found_of found.now)) }
-{
-    found.get_str(id)
-}
+const COMMANDS: &[Usage<'static>] = &[ENCODE, DECODE, KINDS];
 
 /// The texts of an argument.
 pub fn texts_of<'f, 'a>(found: &'f ArgMatches<'a>, id: &str) -> Option<&'f [&'a str]>
     ensures { option_map (λ v. map (λ s. s.now) v.now) result ≡ all_of id.now (rows_of (found_of found.now)) }
 {
     found.get_strs(id)
-}
-
-/// Whether a flag is given.
-fn flag_of<'a>(found: &ArgMatches<'a>, id: &str) -> bool
-    ensures { IsFlag id.now (rows_of (found_of found.now)) result }
-{
-    found.get_flag(id)
 }
 
 /// What the matches of `encode` hold.
@@ -286,14 +194,17 @@ fn asked_at<'a>(
     }
 }
 
-/// The matches of the words by a line's command, where that could be made.
+/// The matches of the words by a line with these commands.
 pub fn matches_of<'a>(
-    line: Result<Command<'a>, AllocError>,
+    alloc: Global,
+    usages: &[Usage<'a>],
     words: &'a [&'a str],
 ) -> Result<ArgMatches<'a>, LineError>
-    ensures { IfOk result (λ found. IsOkAnd line.entry (λ c. HasMatchesOf (app_of c) (map (λ s. s.now) words.entry.now) found)) }
+    ensures { IfOk result (HasMatchesOf (with_usages top_app usages.now) (map (λ s. s.now) words.entry.now)) }
 {
-    match line?.try_get_matches_from(words) {
+    let top = Command::new(alloc, "loom").subcommand_required(true);
+    let line = with_usages(alloc, top, usages)?;
+    match line.try_get_matches_from(words) {
         Ok(found) => Ok(found),
         Err(error) => match error.kind() {
             ErrorKind::OutOfMemory => Err(LineError::NoMemory),
@@ -302,12 +213,18 @@ pub fn matches_of<'a>(
     }
 }
 
+fn line_matches<'a>(alloc: Global, words: &'a [&'a str]) -> Result<ArgMatches<'a>, LineError>
+    ensures { IfOk result (HasMatchesOf line_app (map (λ s. s.now) words.entry.now)) }
+{
+    matches_of(alloc, COMMANDS, words)
+}
+
 /// What the words ask for; `None` where they hold no command after all.
 #[tactic(auto, unfolding(crate::specs::Line::Asks))]
 pub fn read_words<'a>(alloc: Global, words: &'a [&'a str]) -> Result<Option<Asked<'a>>, LineError>
     ensures { IfOk result (λ asked. IfSome asked (Asks (map (λ s. s.now) words.entry.now))) }
 {
-    let found = matches_of(line_command(alloc), words)?;
+    let found = line_matches(alloc, words)?;
     match found.subcommand() {
         None => Ok(None),
         Some((name, matches)) => Ok(asked_at(alloc, name, matches)?),
