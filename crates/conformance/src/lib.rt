@@ -13,10 +13,6 @@ mod growths;
 #[cfg(test)]
 mod limits;
 #[cfg(test)]
-mod sorting;
-#[cfg(test)]
-mod texts;
-#[cfg(test)]
-mod unwatched;
+mod program;
 #[cfg(test)]
 mod watching;

@@ -1,100 +1,63 @@
-//! Queries at the limits of size, which are too long for a page.
+//! Queries and inputs at the limits of size, which are too long for a page.
 
-use crate::unwatched::{on_one, unwatched};
-use collector::Watched;
-use console::{Fault, GraphForm, Streams, Texts, check_query, graph_query, run};
-use diagnostics::{TextNames, explain_fault};
+use crate::program::{Rooms, Shelf, end_of};
+use collector::{Fault, Line, Stop, next_line};
+use std::alloc::{AllocError, Global};
 use std::test::Fail;
 
-/// What `graph_query` answers: the graph's text, or the fault's line.
-fn drawn(rt: &HostRuntime, query: &str) -> Result<Vec<u8>, Fail> {
-    let mut query = Watched::new(query.as_bytes());
-    let mut texts = Texts::new(rt.alloc());
-    let mut out = Watched::new(Vec::new(rt.alloc()));
-    let done = graph_query(
-        rt.alloc(),
-        rt.alloc(),
-        GraphForm::Lines,
-        &mut query,
-        &mut texts,
-        &mut out,
-    );
-    let mut written = out.into_inner();
-    if let Err(fault) = done {
-        if !written.is_empty() {
-            Err("written at a fault")?
-        }
-        fault.write_line("q", "", &mut written)?;
-    }
-    Ok(written)
-}
-
 /// `input a/1; let l1 = distinct(a); let l2 = distinct(l1); ..` to `lN`, then `output lN;`
-fn chain(rt: &HostRuntime, length: u32) -> Result<String, Fail> {
-    let mut text = format!(in rt.alloc(); "input a/1; let l1 = distinct(a);")?;
+fn chain(alloc: Global, length: u32) -> Result<String, AllocError> {
+    let mut text = format!(in alloc; "input a/1; let l1 = distinct(a);")?;
     for i in 2..length.saturating_add(1) {
         let before = i.saturating_sub(1);
-        let next = format!(in rt.alloc(); " let l{i} = distinct(l{before});")?;
+        let next = format!(in alloc; " let l{i} = distinct(l{before});")?;
         text.push_str(next.as_str())?;
     }
-    let end = format!(in rt.alloc(); " output l{length};")?;
+    let end = format!(in alloc; " output l{length};")?;
     text.push_str(end.as_str())?;
     Ok(text)
 }
 
+/// The vertices are those of the lets, the input and the output. The graph's size is refused before the input's fault.
 #[test]
 fn at_most_4096_vertices(rt: HostRuntime) -> Result<(), Fail> {
-    let longest = drawn(&rt, &chain(&rt, 4094)?)?;
-    let end: &[u8] = b"\n4094 distinct 0 <- 4093.0\n4095 output 0 <- 4094.0\n";
-    assert!(rt; longest.as_slice().ends_with(end));
-    let longer = drawn(&rt, &chain(&rt, 4095)?)?;
-    assert_eq!(rt; longer.as_slice(), b"query refused 21\n".as_slice());
+    let rows: [(u32, &[&str], u8, &str, &str); 3] = [
+        (
+            4094,
+            &["loom", "graph", "q"],
+            0,
+            "\n4094 distinct 0 <- 4093.0\n4095 output 0 <- 4094.0\n",
+            "",
+        ),
+        (4095, &["loom", "graph", "q"], 3, "", "query refused 21\n"),
+        (
+            4095,
+            &["loom", "run", "--explain", "q", "i"],
+            3,
+            "",
+            "query refused 21\nq: a dataflow graph of over 4096 vertices\n",
+        ),
+    ];
+    for (length, words, status, end, line) in rows {
+        let query = chain(rt.alloc(), length)?;
+        let shelf = Shelf::of(query.as_bytes(), b"a 1");
+        let ended = end_of(&rt, rt.alloc(), words, shelf, Rooms::ample());
+        assert!(rt; ended.out.ends_with(end.as_bytes()));
+        assert!(rt; ended.out.is_empty() == end.is_empty());
+        assert!(rt; ended.status == status && ended.err.as_slice() == line.as_bytes());
+    }
     Ok(())
 }
 
-/// The graph's size is refused before the input's fault.
+// No text here has so many lines: the line reader is told how many epochs have begun.
 #[test]
-fn too_large_to_run(rt: HostRuntime) -> Result<(), Fail> {
-    let text = chain(&rt, 4095)?;
-    let mut query = Watched::new(text.as_bytes());
-    let mut input = Watched::new(b"a 1".as_slice());
-    let mut texts = Texts::new(rt.alloc());
-    let mut streams = unwatched(rt.alloc(), Vec::new(rt.alloc()));
-    let done = run(
-        &rt,
-        rt.alloc(),
-        on_one(),
-        &mut query,
-        &mut input,
-        &mut texts,
-        &mut streams,
-    );
-    let Streams { out, .. } = streams;
-    assert!(rt; matches!(done, Err(Fault::TooManyVertices)));
-    assert_eq!(rt; out.into_inner().len(), 0);
-    Ok(())
-}
-
-/// A text that is too long, of which no part is shown.
-#[test]
-fn a_long_text_explained(rt: HostRuntime) -> Result<(), Fail> {
-    let mut query = Vec::new(rt.alloc());
-    query.resize(1_048_577, b';')?;
-    let mut query = Watched::new(query.as_slice());
-    let mut texts = Texts::new(rt.alloc());
-    let mut out = Watched::new(Vec::new(rt.alloc()));
-    let done = check_query(rt.alloc(), rt.alloc(), &mut query, &mut texts, &mut out);
-    let fault = done.err().ok_or("taken")?;
-    assert!(rt; matches!(fault, Fault::Query { code: 6, .. }));
-    let mut said = Vec::new(rt.alloc());
-    let names = TextNames {
-        query: "long",
-        input: "",
-    };
-    explain_fault(rt.alloc(), &fault, names, &texts, &mut said)?;
-    assert_eq!(rt;
-        said.as_slice(),
-        b"long: a text over 1,048,576 bytes\n".as_slice()
-    );
-    Ok(())
+fn too_many_epochs(rt: HostRuntime) {
+    let mut fields = Vec::new(rt.alloc());
+    for line in [b"epoch\n".as_slice(), b"epoch\na 1\n"] {
+        let last = next_line(line, &[], u32::MAX - 1, &mut fields);
+        assert!(rt; matches!(last, Ok((Line::Epoch, _))));
+        let beyond = next_line(line, &[], u32::MAX, &mut fields);
+        assert!(rt; matches!(beyond, Err(Stop::Fault(Fault::TooManyEpochs))));
+    }
+    assert_eq!(rt; Fault::TooManyEpochs.code(), 47);
 }

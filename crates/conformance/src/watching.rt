@@ -1,175 +1,117 @@
-//! Runs on several workers, and what is reported of them while they work.
+//! Runs on two workers: what is told of a run while it works, what each vertex did, and an answer that two threads sort.
 
-use collector::Watched;
-use console::{GraphForm, NoGate, RunOptions, Streams, Telling, Texts, Watcher, Workers, run};
-use std::io;
-use std::io::{ErrorKind, Write};
+use crate::program::{Ended, Room, Rooms, Shelf, end_of};
+use console::Telling;
+use std::alloc::Global;
+use std::io::Write;
 use std::sync::Wait;
 use std::test::Fail;
 use std::thread::Threads;
 
-/// A writer that fails.
-#[derive(Drop)]
-struct Broken;
+const WATCHED: &[&str] = &[
+    "loom",
+    "run",
+    "--workers",
+    "2",
+    "--watch",
+    "--stats",
+    "q",
+    "i",
+];
 
-impl Write for Broken {
-    fn write(&mut self, _buf: &[u8]) -> io::Result<usize> {
-        Err(io::Error::from(ErrorKind::Other))
-    }
+const UNWATCHED: &[&str] = &["loom", "run", "--workers", "2", "q", "i"];
 
-    fn flush(&mut self) -> io::Result<()> {
-        Ok(())
-    }
-}
-
-/// Writes what two workers answer to an input of records of one field, which go through as they are, and what each vertex did.
-fn copy<O: Write + Send + Drop, E: Write>(
-    rt: &HostRuntime,
-    threads: &(impl Threads + Wait + Sync),
+/// What two workers answer to an input of records of one field, which go through as they are.
+fn copied<R: Threads + Wait + Sync>(
+    rt: &R,
+    alloc: Global,
+    words: &[&str],
     input: &[u8],
-    streams: &mut Streams<Vec<u8>, E, O>,
-) -> Result<(), Fail> {
-    let mut query = Watched::new(b"input a/1; output a;".as_slice());
-    let mut input = Watched::new(input);
-    let mut texts = Texts::new(rt.alloc());
-    let options = RunOptions {
-        workers: Workers::new(2).ok_or("no workers")?,
-        gate: &NoGate,
-        stats: Some(GraphForm::Lines),
+    rooms: Rooms,
+) -> Ended {
+    let shelf = Shelf::of(b"input a/1; output a;", input);
+    end_of(rt, alloc, words, shelf, rooms)
+}
+
+/// The last number of lines `passed M`, or of one line whose numbers rise in place: 0 if nothing was told, and None if the numbers don't rise,
+/// or something else was told.
+fn last_passed(telling: Telling, told: &[u8]) -> Option<u64> {
+    if told.is_empty() {
+        return Some(0);
+    }
+    let text = str::from_utf8(told).ok()?.strip_suffix("\n")?;
+    let (text, sign) = match telling {
+        Telling::InPlace => (text.strip_prefix("\r")?, '\r'),
+        _ => (text, '\n'),
     };
-    run(
-        threads,
-        rt.alloc(),
-        options,
-        &mut query,
-        &mut input,
-        &mut texts,
-        streams,
-    )
-    .ok()
-    .ok_or("no answer")?;
-    Ok(())
-}
-
-/// Streams that keep what is written to them.
-fn keeping(rt: &HostRuntime, telling: Telling) -> Streams<Vec<u8>, Vec<u8>, Vec<u8>> {
-    let writer = Vec::new(rt.alloc());
-    Streams {
-        out: Watched::new(Vec::new(rt.alloc())),
-        err: Vec::new(rt.alloc()),
-        watcher: Some(Watcher { writer, telling }),
+    let mut last = 0;
+    for piece in text.split(sign) {
+        let number = piece.strip_prefix("passed ")?.parse().ok()?;
+        if number <= last {
+            return None;
+        }
+        last = number;
     }
+    Some(last)
 }
 
-/// The numbers of lines `passed M`; None where a line is another one.
-fn passed_numbers(rt: &HostRuntime, text: &[u8]) -> Result<Option<Vec<u64>>, Fail> {
-    let mut numbers = Vec::new(rt.alloc());
-    for line in String::from_utf8_lossy(rt.alloc(), text)?.lines() {
-        let Some(number) = line
-            .strip_prefix("passed ")
-            .and_then(|word| word.parse().ok())
-        else {
-            return Ok(None);
-        };
-        numbers.push(number)?;
+/// Inputs, what is answered, and how many epochs pass. Which numbers are told before the last epoch is open isn't known.
+const RUNS: [(&[u8], &[u8], u64); 3] = [
+    (b"epoch\nepoch\nepoch\n", b"epoch 0\nepoch 1\nepoch 2\n", 3),
+    (b"epoch\na 7\n", b"epoch 0\n7\n", 1),
+    (b"", b"", 0),
+];
+
+/// Each of them, also where nobody takes what is told and what each vertex did.
+#[test]
+fn epochs_pass(rt: HostRuntime) {
+    for (input, answer, passed) in RUNS {
+        for telling in [Telling::Lines, Telling::InPlace] {
+            let rooms = Rooms {
+                telling,
+                ..Rooms::ample()
+            };
+            let run = copied(&rt, rt.alloc(), WATCHED, input, rooms);
+            assert!(rt; run.status == 0 && run.out.as_slice() == answer);
+            assert_eq!(rt; last_passed(telling, run.told.as_slice()), Some(passed));
+            let rooms = Rooms {
+                err: Room::of(0),
+                told: Room::of(0),
+                ..rooms
+            };
+            assert!(rt; copied(&rt, rt.alloc(), WATCHED, input, rooms).is(0, answer, b""));
+        }
     }
-    Ok(Some(numbers))
-}
-
-/// Which numbers come before the last one is open, but they rise.
-#[test]
-fn three_epochs_pass(rt: HostRuntime) -> Result<(), Fail> {
-    let mut streams = keeping(&rt, Telling::Lines);
-    copy(&rt, &rt, b"epoch\nepoch\nepoch\n", &mut streams)?;
-    let Streams { out, watcher, .. } = streams;
-    assert_eq!(rt;
-        out.into_inner().as_slice(),
-        b"epoch 0\nepoch 1\nepoch 2\n".as_slice()
-    );
-    let shown = watcher.ok_or("no watcher")?.writer;
-    let numbers = passed_numbers(&rt, shown.as_slice())?.ok_or("no such line")?;
-    assert_eq!(rt; numbers.last(), Some(&3));
-    assert!(rt; numbers.is_sorted_by(|one, next| *one < *next));
-    Ok(())
-}
-
-/// A line that rises in place ends once, after the last number.
-#[test]
-fn one_line_rises(rt: HostRuntime) -> Result<(), Fail> {
-    let mut streams = keeping(&rt, Telling::InPlace);
-    copy(&rt, &rt, b"epoch\na 7\n", &mut streams)?;
-    let Streams { out, watcher, .. } = streams;
-    assert_eq!(rt; out.into_inner().as_slice(), b"epoch 0\n7\n".as_slice());
-    let shown = watcher.ok_or("no watcher")?.writer;
-    assert_eq!(rt; shown.as_slice(), b"\rpassed 1\n".as_slice());
-    let mut streams = keeping(&rt, Telling::InPlace);
-    copy(&rt, &rt, b"epoch\nepoch\nepoch\n", &mut streams)?;
-    let Streams { watcher, .. } = streams;
-    let shown = watcher.ok_or("no watcher")?.writer;
-    assert!(rt; shown.ends_with(b"\rpassed 3\n"));
-    assert_eq!(rt; shown.iter().filter(|byte| **byte == b'\n').count(), 1);
-    Ok(())
-}
-
-#[test]
-fn no_line_rises(rt: HostRuntime) -> Result<(), Fail> {
-    let mut streams = keeping(&rt, Telling::InPlace);
-    copy(&rt, &rt, b"", &mut streams)?;
-    let Streams { watcher, .. } = streams;
-    assert_eq!(rt; watcher.ok_or("no watcher")?.writer.len(), 0);
-    Ok(())
-}
-
-#[test]
-fn no_epoch_passes(rt: HostRuntime) -> Result<(), Fail> {
-    let mut streams = keeping(&rt, Telling::Lines);
-    copy(&rt, &rt, b"", &mut streams)?;
-    let Streams { out, err, watcher } = streams;
-    assert_eq!(rt; out.into_inner().len(), 0);
-    assert_eq!(rt; watcher.ok_or("no watcher")?.writer.len(), 0);
-    let shown =
-        b"0 input events 0 in 0 sent 0\n1 output events 0 in 0 sent 0\nmessages 0\nepochs 0\n";
-    assert_eq!(rt; err.as_slice(), shown.as_slice());
-    Ok(())
 }
 
 /// Of 256 epochs with two records each, one of the two workers computes all: each epoch is one message.
 #[test]
 fn many_small_epochs(rt: HostRuntime) -> Result<(), Fail> {
-    let mut input = String::new(rt.alloc());
+    let mut input = Vec::new(rt.alloc());
     for _ in 0..256 {
-        input.push_str("epoch\na 1\na 2\n")?;
+        input.extend_from_slice(b"epoch\na 1\na 2\n")?;
     }
-    let mut streams = keeping(&rt, Telling::Lines);
-    copy(&rt, &rt, input.as_bytes(), &mut streams)?;
-    let Streams { out, err, .. } = streams;
-    assert!(rt;
-        out.into_inner()
-            .ends_with(b"epoch 254\n1\n2\nepoch 255\n1\n2\n")
-    );
+    let run = copied(&rt, rt.alloc(), WATCHED, input.as_slice(), Rooms::ample());
+    let end = b"epoch 254\n1\n2\nepoch 255\n1\n2\n".as_slice();
     let counted =
         b"0 input events 0 in 512 sent 512\n1 output events 256 in 512 sent 0\nmessages 256\nepochs 256\n";
-    assert_eq!(rt; err.as_slice(), counted.as_slice());
+    assert!(rt; run.out.ends_with(end) && run.err.as_slice() == counted.as_slice());
     Ok(())
 }
 
+/// As many records as two threads sort.
+const RECORDS: u32 = 70_000;
+
+/// Numbers that come in descending order are written in ascending order.
 #[test]
-fn shown_to_nobody(rt: HostRuntime) -> Result<(), Fail> {
-    for telling in [Telling::Lines, Telling::InPlace] {
-        let mut streams = Streams {
-            out: Watched::new(Vec::new(rt.alloc())),
-            err: Broken,
-            watcher: Some(Watcher {
-                writer: Broken,
-                telling,
-            }),
-        };
-        copy(&rt, &rt, b"epoch\na 1\nepoch\n", &mut streams)?;
-        let Streams { out, .. } = streams;
-        assert_eq!(rt;
-            out.into_inner().as_slice(),
-            b"epoch 0\n1\nepoch 1\n".as_slice()
-        );
+fn sorted_by_two_threads(rt: HostRuntime) -> Result<(), Fail> {
+    let mut input = b"epoch\n".to_vec(rt.alloc())?;
+    let mut answer = b"epoch 0\n".to_vec(rt.alloc())?;
+    for number in 0..RECORDS {
+        writeln!(input, "a {}", RECORDS - 1 - number)?;
+        writeln!(answer, "{number}")?;
     }
+    let run = copied(&rt, rt.alloc(), UNWATCHED, input.as_slice(), Rooms::ample());
+    assert!(rt; run.is(0, answer.as_slice(), b""));
     Ok(())
 }

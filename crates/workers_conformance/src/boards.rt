@@ -47,6 +47,13 @@ pub fn batch_of(alloc: Global, field: i64) -> Option<Batch> {
     Batch::from_rows(alloc, rows).ok()?
 }
 
+/// A batch of one record of two fields.
+pub fn wide_batch(alloc: Global) -> Option<Batch> {
+    let mut rows = Rows::with_capacity(alloc, 2, 1).ok()?;
+    rows.push(&[1, 2]).ok()?;
+    Batch::from_rows(alloc, rows).ok()?
+}
+
 /// A batch of a record of one field for each of these numbers; nothing where there are none.
 pub fn batch_of_range(alloc: Global, from: i64, to: i64) -> Option<Batch> {
     let mut rows = Rows::with_capacity(alloc, 1, 1).ok()?;

@@ -4,18 +4,20 @@
 #[cfg(test)]
 mod boards;
 #[cfg(test)]
-mod epochs;
-#[cfg(test)]
-mod feeds;
+mod calls;
 #[cfg(test)]
 mod flags;
-#[cfg(test)]
-mod looks;
 #[cfg(test)]
 mod refused;
 #[cfg(test)]
 mod runs;
 #[cfg(test)]
 mod scarce;
+#[cfg(test)]
+mod scenarios;
+#[cfg(test)]
+mod seats;
+#[cfg(test)]
+mod threads;
 #[cfg(test)]
 mod whole_runs;

@@ -1,183 +1,171 @@
-//! Runs of an engine by several threads.
+//! Runs of one worker and of two, where all workers see one tracker, and where each has a view of its own.
 
-ghost use Rattle.std.specs.Prelude.{◌≡◌, All, None};
-ghost use Rattle.board.specs.Shown.{tables};
+ghost use Rattle.std.specs.Prelude.{◌<◌, ◌≤◌};
 
-use crate::boards::{
-    batch_of, batch_of_range, copying, copying_with_local_views, count_of, emitted,
-};
+use crate::boards::{copying, copying_with_local_views};
+use crate::calls::{Call, TAKEN};
 use crate::flags::Meeting;
-use board::Board;
-use rows::Batch;
+use crate::scenarios::{Question, Scenario, Step, WORKED_OFF, play};
+use crate::threads::{BOTH_DRAINED, DRAINED, FOUR_EPOCHS, ONCE_EACH};
 use std::alloc::Global;
-use std::marker::Brand;
 use std::sync::Wait;
-use std::test::Fail;
-use std::thread;
 use std::thread::Threads;
-use views::Views;
-use workers::{Ended, Engine, Feed, Gate, Mark, Naming, NoGate, Publisher, finish, work};
+use workers::NoGate;
 
-/// The result of a run by two workers and two feeders.
-#[derive(Clone, Copy, Debug, PartialEq, Eq)]
-struct Outcome {
-    ended: [Ended; 2],
-    drained: bool,
-    passed: u64,
-    /// The numbers that were fed once and emitted once, of 0 to 199.
-    once: u64,
-}
+/// What an observer sees of an epoch before the work and after it.
+const LOOKED_AT: Scenario = Scenario {
+    steps: &[
+        (Step::Call(Call::Feed(0, 7)), TAKEN),
+        (Step::Call(Call::Seal(0)), TAKEN),
+        (Step::Call(Call::Seal(0)), TAKEN),
+        (Step::Call(Call::Close(0)), TAKEN),
+        (Step::Fed(0, 7), 1),
+        (Step::Emitted(0, 7), 0),
+        (Step::Passed(0), 0),
+        (Step::Work, DRAINED),
+        (Step::Fed(0, 7), 1),
+        (Step::Emitted(0, 7), 1),
+        (Step::Passed(0), 1),
+        (Step::Mark, 2),
+    ],
+    report: &[],
+};
 
-/// Two workers are at work while two threads feed 0 to 99 and 100 to 199. A first batch may be fed before the threads start.
-fn two_by_two<J: Naming + Send + Sync, V: Views + Send, G: Gate + Sync, R: Threads + Wait + Sync>(
+/// Epochs of nothing pass though nobody works: what waits for the first worker is applied by whoever seals.
+const SEALED_TWICE: Scenario = Scenario {
+    steps: &[
+        (Step::Call(Call::Seal(0)), TAKEN),
+        (Step::Call(Call::Seal(0)), TAKEN),
+        (Step::Mark, 2),
+    ],
+    report: &[],
+};
+
+/// The first reason to refuse a feed is the one that is told: no such input, closed, number of fields.
+const REFUSED: Scenario = Scenario {
+    steps: &[
+        (Step::Call(Call::Feed(0, 7)), TAKEN),
+        (Step::Call(Call::Seal(0)), TAKEN),
+        (Step::Call(Call::Feed(0, 8)), TAKEN),
+        (Step::Call(Call::FeedWide(0)), 33),
+        (Step::Call(Call::FeedWide(1)), 32),
+        (Step::Call(Call::Close(0)), TAKEN),
+        (Step::Call(Call::Feed(0, 9)), 31),
+        (Step::Call(Call::FeedWide(0)), 31),
+    ],
+    report: &[],
+};
+
+/// Each epoch shows what was fed for it.
+const PASSED: Scenario = Scenario {
+    steps: &[
+        (Step::Mark, 0),
+        (Step::WorkWhile(FOUR_EPOCHS), BOTH_DRAINED),
+        (Step::Mark, 4),
+    ],
+    report: &[
+        (Question::Emitted(0, 1), 1),
+        (Question::Emitted(0, 2), 1),
+        (Question::Emitted(0, 3), 0),
+        (Question::Emitted(1, 1), 0),
+        (Question::Emitted(1, 2), 0),
+        (Question::Emitted(1, 3), 0),
+        (Question::Emitted(2, 1), 0),
+        (Question::Emitted(2, 2), 0),
+        (Question::Emitted(2, 3), 2),
+        (Question::Emitted(3, 1), 1),
+        (Question::Emitted(3, 2), 0),
+        (Question::Emitted(3, 3), 0),
+    ],
+};
+
+/// Two workers and two feeders.
+const FED_BY_TWO: Scenario = Scenario {
+    steps: &[(Step::WorkWhile(ONCE_EACH), BOTH_DRAINED)],
+    report: &[
+        (Question::FedOnce(200), 200),
+        (Question::End(200), WORKED_OFF),
+    ],
+};
+
+/// The same after a first batch, of which each worker's part is so large that no other thread computes it.
+const LARGE_FIRST: Scenario = Scenario {
+    steps: &[
+        (Step::Call(Call::FeedBatch(1_000, 11_000)), TAKEN),
+        (Step::WorkWhile(ONCE_EACH), BOTH_DRAINED),
+    ],
+    report: &[
+        (Question::FedOnce(200), 200),
+        (Question::End(200), WORKED_OFF),
+    ],
+};
+
+/// Whether a scenario goes as it says where all workers see one tracker.
+fn goes_on_one_tracker<R: Threads + Wait + Sync>(
     rt: &R,
     alloc: Global,
-    board: Board<V>,
-    publisher: Publisher,
-    gate: &G,
-    first: Option<Batch>,
-) -> Option<Outcome>
-    requires names { tables board.shown ≡ J.names }
-    requires graph { board.shown.graph ≡ J.graph }
-    requires mark { publisher.table ≡ J.mark }
-    requires unwatched { J.received ≡ None }
-    requires fresh { publisher.number ≡ 0 }
+    workers: u32,
+    scenario: Scenario,
+) -> bool
+    requires some { 0 < workers }
+    requires few { workers ≤ 64 }
 {
-    let shared = Engine::<J, V>::new(alloc, board, publisher).ok()?;
-    let engine = &shared;
-    if let Some(batch) = first {
-        engine.feed(rt, alloc, 0, batch).ok()?;
-    }
-    let (ended, ()) = thread::join(
-        rt,
-        move || work_both(rt, alloc, engine, gate),
-        move || feed_both(rt, alloc, engine),
-    );
-    let report = finish(shared, Vec::new(alloc));
-    let mut once = 0u64;
-    for field in 0..200 {
-        if count_of(report.fed(0, 0), field) == 1 && count_of(emitted(&report, 0), field) == 1 {
-            once = once.saturating_add(1);
-        }
-    }
-    Some(Outcome {
-        ended,
-        drained: report.drained(),
-        passed: report.passed(),
-        once,
-    })
+    let board = copying(alloc, workers);
+    play(rt, alloc, board, &NoGate, scenario) == Some(true)
 }
 
-/// Both workers, a thread for each.
-pub fn work_both<
-    J: Naming + Send + Sync,
-    V: Views + Send,
-    G: Gate + Sync,
-    R: Threads + Wait + Sync,
->(rt: &R, alloc: Global, engine: &Engine<J, V>, gate: &G) -> [Ended; 2] {
-    let (one, other) = thread::join(
-        rt,
-        move || work(rt, alloc, engine, 0, gate),
-        move || work(rt, alloc, engine, 1, gate),
-    );
-    [one, other]
-}
-
-/// Two threads feed, and then the input is sealed and closed.
-fn feed_both<J: Naming + Send + Sync, V: Views + Send, R: Threads + Wait + Sync>(
+/// The same where each worker has a view of its own.
+fn goes_on_local_views<R: Threads + Wait + Sync>(
     rt: &R,
     alloc: Global,
-    engine: &Engine<J, V>,
-) {
-    let ((), ()) = thread::join(
-        rt,
-        move || feed_range(rt, alloc, engine, 0, 100),
-        move || feed_at_once(rt, alloc, engine, 100, 200),
-    );
-    let _sealed = engine.seal(rt, 0);
-    let _closed = engine.close(rt, 0);
-}
-
-/// Feeds these numbers, each in a batch of its own.
-fn feed_range<J: Naming, V: Views, R: Wait>(
-    rt: &R,
-    alloc: Global,
-    engine: &Engine<J, V>,
-    from: i64,
-    to: i64,
-) {
-    for field in from..to {
-        if let Some(batch) = batch_of(alloc, field) {
-            let _done = engine.feed(rt, alloc, 0, batch);
-        }
-    }
-}
-
-/// The same in one call.
-fn feed_at_once<J: Naming, V: Views, R: Wait>(
-    rt: &R,
-    alloc: Global,
-    engine: &Engine<J, V>,
-    from: i64,
-    to: i64,
-) {
-    let mut feeds = Vec::new(alloc);
-    for field in from..to {
-        if let Some(batch) = batch_of(alloc, field) {
-            let _pushed = feeds.push(Feed::Batch { input: 0, batch });
-        }
-    }
-    let _done = engine.feed_all(rt, alloc, feeds);
-}
-
-fn run_two<V: Views + Send, G: Gate + Sync, R: Threads + Wait + Sync>(
-    rt: &R,
-    alloc: Global,
-    board: Board<V>,
-    gate: &G,
-    first: Option<Batch>,
-) -> Option<Outcome> {
-    let (_mark, publisher, _seats) = Mark::new(alloc, 0).ok()?;
-    two_by_two::<Brand, V, G, R>(rt, alloc, board, publisher, gate, first)
-}
-
-/// Both workers have found all work done, and each number was emitted once.
-fn all_once() -> Outcome {
-    Outcome {
-        ended: [Ended::Drained, Ended::Drained],
-        drained: true,
-        passed: 1,
-        once: 200,
-    }
+    workers: u32,
+    scenario: Scenario,
+) -> bool
+    requires some { 0 < workers }
+    requires few { workers ≤ 64 }
+{
+    let board = copying_with_local_views(alloc, workers);
+    play(rt, alloc, board, &NoGate, scenario) == Some(true)
 }
 
 #[test]
-fn two_feeders(rt: HostRuntime) -> Result<(), Fail> {
-    let alloc = rt.alloc();
-    let board = copying(alloc, 2).ok_or("no board")?;
-    let outcome = run_two(&rt, alloc, board, &NoGate, None).ok_or("no report")?;
-    assert_eq!(rt; outcome, all_once());
-    Ok(())
+fn looks_before_and_after(rt: HostRuntime) {
+    assert!(rt; goes_on_one_tracker(&rt, rt.alloc(), 1, LOOKED_AT));
+    assert!(rt; goes_on_local_views(&rt, rt.alloc(), 1, LOOKED_AT));
 }
 
 #[test]
-fn two_feeders_with_local_views(rt: HostRuntime) -> Result<(), Fail> {
-    let alloc = rt.alloc();
-    let board = copying_with_local_views(alloc, 2).ok_or("no board")?;
-    let outcome = run_two(&rt, alloc, board, &NoGate, None).ok_or("no report")?;
-    assert_eq!(rt; outcome, all_once());
-    Ok(())
+fn passes_without_workers(rt: HostRuntime) {
+    assert!(rt; goes_on_one_tracker(&rt, rt.alloc(), 1, SEALED_TWICE));
+    assert!(rt; goes_on_local_views(&rt, rt.alloc(), 2, SEALED_TWICE));
 }
 
-/// Each worker's part of the first batch is large, so no other thread computes it.
 #[test]
-fn two_at_once(rt: HostRuntime) -> Result<(), Fail> {
-    let alloc = rt.alloc();
-    let board = copying(alloc, 2).ok_or("no board")?;
-    let large = batch_of_range(alloc, 1_000, 11_000).ok_or("no batch")?;
+fn refuses_in_order(rt: HostRuntime) {
+    assert!(rt; goes_on_one_tracker(&rt, rt.alloc(), 2, REFUSED));
+    assert!(rt; goes_on_local_views(&rt, rt.alloc(), 2, REFUSED));
+}
+
+#[test]
+fn passes_each_epoch(rt: HostRuntime) {
+    assert!(rt; goes_on_one_tracker(&rt, rt.alloc(), 2, PASSED));
+    assert!(rt; goes_on_local_views(&rt, rt.alloc(), 2, PASSED));
+}
+
+#[test]
+fn two_feeders(rt: HostRuntime) {
+    assert!(rt; goes_on_one_tracker(&rt, rt.alloc(), 2, FED_BY_TWO));
+    assert!(rt; goes_on_local_views(&rt, rt.alloc(), 2, FED_BY_TWO));
+}
+
+/// Two events are computed at once.
+#[test]
+fn two_at_once(rt: HostRuntime) {
+    let board = copying(rt.alloc(), 2);
     let meeting = Meeting::new();
-    let outcome = run_two(&rt, alloc, board, &meeting, Some(large)).ok_or("no report")?;
-    assert_eq!(rt; outcome.once, 200);
+    assert_eq!(rt;
+        play(&rt, rt.alloc(), board, &meeting, LARGE_FIRST),
+        Some(true)
+    );
     assert!(rt; meeting.have_met());
-    Ok(())
 }

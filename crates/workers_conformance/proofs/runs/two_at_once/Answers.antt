@@ -3,5 +3,5 @@ use Rattle.std.proofs.Crossing.{crosses}
 use Rattle.workers.proofs.Crossing.{direct_send}
 use Rattle.workers_conformance.proofs.runs.two_at_once.Goals as goal
 
-pub run_two-requires-send-V : goal.run_two-requires-send-V
-run_two-requires-send-V g c κs = search (sendable, crosses, direct_send) depth 20
+pub play-requires-send-V : goal.play-requires-send-V
+play-requires-send-V g c κs = search (sendable, crosses, direct_send) depth 20

@@ -1,7 +1,7 @@
 use denote.Param.Send.{sendable}
 use Rattle.std.proofs.Crossing.{crosses}
 use Rattle.workers.proofs.Crossing.{engine_sync}
-use Rattle.workers_conformance.proofs.runs.work_both.Goals as goal
+use Rattle.workers_conformance.proofs.threads.work_while.Goals as goal
 
 pub join-one-requires-send-F : goal.join-one-requires-send-F
 join-one-requires-send-F g c κs within =

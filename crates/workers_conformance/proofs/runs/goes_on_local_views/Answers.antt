@@ -1,0 +1,7 @@
+use denote.Param.Send.{sendable}
+use Rattle.std.proofs.Crossing.{crosses}
+use Rattle.workers.proofs.Crossing.{local_views_send}
+use Rattle.workers_conformance.proofs.runs.goes_on_local_views.Goals as goal
+
+pub play-requires-send-V : goal.play-requires-send-V
+play-requires-send-V g c κs = search (sendable, crosses, local_views_send) depth 20

@@ -1,7 +1,0 @@
-use denote.Param.Send.{sendable}
-use Rattle.std.proofs.Crossing.{crosses}
-use Rattle.workers.proofs.Crossing.{local_views_send}
-use Rattle.workers_conformance.proofs.runs.two_feeders_with_local_views.Goals as goal
-
-pub run_two-requires-send-V : goal.run_two-requires-send-V
-run_two-requires-send-V g c κs = search (sendable, crosses, local_views_send) depth 20
