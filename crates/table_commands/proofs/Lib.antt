@@ -1,3 +1,4 @@
 pub mod Results
 pub mod Writing
 pub mod Files
+pub mod Streamed

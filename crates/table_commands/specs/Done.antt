@@ -8,6 +8,7 @@ use Rattle.query_kinds.specs.Listed.{IsListed}
 use Rattle.schema.specs.declared.tables.Schema.{Schema}
 use Rattle.schema.specs.declared.tables.Table.{Table}
 use Rattle.table_commands.specs.Read.{AreNamed, IsDictionaryOf, IsInputOf, IsKnownAs, IsOpenedAs, IsOutput, IsReadSchema}
+use Rattle.table_commands.specs.Streamed.{StaysUnmarked}
 use Rattle.table_words.specs.declared.line.Asked.{Asked}
 use Rattle.table_words.specs.declared.line.Asked.TheVariants.{Encode, Decode, Kinds}
 use Rattle.tables.specs.Answers.{IsDecoded}
@@ -32,6 +33,16 @@ pub record IsEncodedBy (known : Known) (schema : Schema) (paths : List (List ℕ
   pub numbered : AreNumbered schema.constants.items old new
   pub encoded : IsInputOf known schema paths new text
   pub ended : out ≡ marked has_mark text
+
+-- the input text of the files by a dictionary's texts: its beginning was written, and this is the rest
+abbrev pub IsBegunBy : Known → Schema → (paths texts : List (List ℕ)) → (has_mark : Bool) → (old new : Option (List ℕ)) → (rest : List ℕ) → Type 0
+IsBegunBy known schema paths texts has_mark old new rest =
+    (text : List ℕ) × (begun : List ℕ) × IsInputOf known schema paths texts text × Appends old new begun × (begun ++ rest ≡ marked has_mark text)
+
+-- the same of the text that `encode` writes
+abbrev pub IsEncodedOnto : Known → Schema → (paths : List (List ℕ)) → (dictionary : Option (List ℕ)) → (has_mark : Bool) → (old new : Option (List ℕ)) → (rest : List ℕ) → Type 0
+IsEncodedOnto known schema paths dictionary has_mark old new rest =
+    (begun : List ℕ) × Appends old new begun × IsEncodedBy known schema paths dictionary has_mark (begun ++ rest)
 
 -- that text was written
 abbrev pub WritesInput : Known → Schema → (paths : List (List ℕ)) → (dictionary : Option (List ℕ)) → (has_mark : Bool) → Option (List ℕ) → Option (List ℕ) → Type 0
@@ -85,3 +96,9 @@ IsDone known (Encode schema files dictionary end_mark) old new =
     HasEncoded known schema.now (map (λ s. s.now) files.items) (option_map (λ s. s.now) dictionary) end_mark old new
 IsDone known (Decode asked) old new = HasDecoded known asked.schema.now asked.answer.now (option_map (λ s. s.now) asked.dictionary) (option_map (λ s. s.now) asked.output) old new
 IsDone known (Kinds asked) old new = HasListedKinds known asked.schema.now asked.query.now old new
+
+-- what is known where it wasn't done: nothing was written, or, of an input text that is to have an end mark, a beginning without it
+abbrev pub IsQuiet : Asked → (old new : Option (List ℕ)) → Type 0
+IsQuiet (Encode schema files dictionary end_mark) old new = StaysUnmarked end_mark old new
+IsQuiet (Decode asked) old new = new ≡ old
+IsQuiet (Kinds asked) old new = new ≡ old

@@ -1,3 +1,4 @@
 pub mod Written
 pub mod Read
 pub mod Done
+pub mod Streamed

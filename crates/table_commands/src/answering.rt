@@ -2,7 +2,7 @@
 
 ghost use Rattle.std.specs.Prelude.{◌≡◌, ◌<◌, ◌↔◌, ◌⊎◌, IfErr, IsTrue, OnOk, codes, map, true};
 ghost use Rattle.collector.specs.Watching.{inner_of};
-ghost use Rattle.table_commands.specs.Done.{IsDone};
+ghost use Rattle.table_commands.specs.Done.{IsDone, IsQuiet};
 ghost use Rattle.table_commands.specs.Written.{IsOfTables, IsTablesWord, IsWriteFault};
 ghost use Rattle.table_words.specs.Line.{Asks};
 ghost use Rattle.table_words.specs.declared.line.Asked.{Asked};
@@ -50,7 +50,7 @@ fn obey<'a, S: Sources<'a>, D: Drafts, W: Write>(
     out: &mut Watched<W>,
 ) -> Result<(), Fault<'a>>
     ensures written { OnOk result (IsDone (S.content sources.now) asked.now (W.contents (inner_of out.old)) (W.contents (inner_of out.new))) }
-    ensures fault { IfErr result (λ fault. IsWriteFault fault ⊎ (W.contents (inner_of out.new) ≡ W.contents (inner_of out.old))) }
+    ensures fault { IfErr result (λ fault. IsWriteFault fault ⊎ IsQuiet asked.now (W.contents (inner_of out.old)) (W.contents (inner_of out.new))) }
 {
     match asked {
         Asked::Encode {
@@ -111,7 +111,7 @@ fn answer<'a, S: Sources<'a>, D: Drafts, W: Write, E: Write>(
     err: &mut E,
 ) -> u8
     ensures written { result ≡ 0 → IsDone (S.content sources.now) asked.now (W.contents (inner_of out.old)) (W.contents (inner_of out.new)) }
-    ensures quiet { ((result ≡ 0) ⊎ (result ≡ 6)) ⊎ (W.contents (inner_of out.new) ≡ W.contents (inner_of out.old)) }
+    ensures quiet { ((result ≡ 0) ⊎ (result ≡ 6)) ⊎ IsQuiet asked.now (W.contents (inner_of out.old)) (W.contents (inner_of out.new)) }
 {
     match obey(alloc, sources, drafts, asked, out) {
         Ok(()) => 0,
@@ -131,7 +131,8 @@ pub fn answer_tables<'a, S: Sources<'a>, D: Drafts, W: Write, E: Write>(
 ) -> u8
     ensures written { result ≡ 0 → (asked : Asked) × Asks (map (λ s. s.now) words.entry.now) asked
         × IsDone (S.content sources.now) asked (W.contents (inner_of out.old)) (W.contents (inner_of out.new)) }
-    ensures quiet { ((result ≡ 0) ⊎ (result ≡ 6)) ⊎ (W.contents (inner_of out.new) ≡ W.contents (inner_of out.old)) }
+    ensures quiet { ((result ≡ 0) ⊎ (result ≡ 6)) ⊎ (W.contents (inner_of out.new) ≡ W.contents (inner_of out.old))
+        ⊎ ((asked : Asked) × Asks (map (λ s. s.now) words.entry.now) asked × IsQuiet asked (W.contents (inner_of out.old)) (W.contents (inner_of out.new))) }
 {
     let asked = match read_words(alloc, words) {
         Ok(Some(asked)) => asked,

@@ -1,13 +1,15 @@
 //! The command `encode`.
 
-ghost use Rattle.std.specs.Prelude.{◌≡◌, ◌⊎◌, ◌++◌, IfErr, IfOk, List, None, OnOk, Some, map, option_map, ℕ};
+ghost use Rattle.std.specs.Prelude.{◌≡◌, ◌⊎◌, ◌++◌, IfErr, IfOk, List, None, OnOk, Some, map, option_map, true, ℕ};
 ghost use Rattle.collector.specs.Watching.{inner_of};
 ghost use Rattle.csv_cells.specs.Texts.{texts_of};
-ghost use Rattle.table_commands.specs.Done.{HasEncoded, IsEncodedBy, WritesInput, marked};
+ghost use Rattle.table_commands.specs.Done.{HasEncoded, IsBegunBy, IsEncodedOnto, WritesInput};
 ghost use Rattle.table_commands.specs.Read.{IsInputOf, IsReadSchema};
+ghost use Rattle.table_commands.specs.Streamed.{IsUnmarked, StaysUnmarked};
 ghost use Rattle.table_commands.specs.Written.{IsWriteFault};
 ghost use Rattle.tables.specs.Inputs.{AreNumbered};
 
+use crate::input_writer::{END_MARK, InputWriter};
 use collector::{Sources, Watched};
 use csv_cells::Dictionary;
 use schema::Schema;
@@ -18,9 +20,6 @@ use table_files::{
     is_input_twice, needs_dictionary, paths_of, schema_of, table_fault, write_text, write_with,
 };
 use tables::{EncodeFault, FileFault, LineSink, encode};
-
-/// The last line of an input that has an end mark.
-const END_MARK: &[u8] = b"end\n";
 
 /// What `encode` is asked for.
 #[derive(Clone, Copy)]
@@ -77,6 +76,7 @@ pub fn append_input<'a, S: Sources<'a>, O: LineSink>(
     ensures input { OnOk result ((input : List ℕ) × IsInputOf (S.content sources.now) schema.now (map (λ s. s.now) paths.now) (texts_of dictionary.new) input
         × ((first : O) (taken : List ℕ) → O.took first out.old taken → O.took first out.new (taken ++ input))) }
     ensures numbered { OnOk result (AreNumbered schema.now.constants.items (texts_of dictionary.old) (texts_of dictionary.new)) }
+    ensures stays { (first : O) → O.stays first out.old → O.stays first out.new }
 {
     if paths.len() != schema.inputs.len() {
         return Err(InputFault::Tables(Fault::Words(WordFault::Files)));
@@ -107,39 +107,88 @@ fn input_text<'a, S: Sources<'a>>(
     }
 }
 
-/// The input text of the files, with the end mark if it is to have one. New texts go to the end of the dictionary.
-fn marked_text<'a, S: Sources<'a>>(
+/// Writes the input text of the files as it is read, which is to have an end mark, and gives its last lines and the mark, which are still to be written.
+/// New texts go to the end of the dictionary.
+fn stream_input<'a, S: Sources<'a>, W: Write>(
     alloc: Global,
     sources: &S,
     files: Files<'_, 'a>,
     dictionary: &mut Dictionary,
+    out: &mut Watched<W>,
 ) -> Result<Vec<u8>, Fault<'a>>
-    ensures input { IfOk result (λ out. (text : List ℕ) × (out.items ≡ marked files.entry.end_mark text)
-        × IsInputOf (S.content sources.now) files.entry.schema.now (map (λ s. s.now) files.entry.paths.now) (texts_of dictionary.new) text) }
+    ensures input { IfOk result (λ rest. IsBegunBy (S.content sources.now) files.entry.schema.now (map (λ s. s.now) files.entry.paths.now) (texts_of dictionary.new) true
+        (W.contents (inner_of out.old)) (W.contents (inner_of out.new)) rest.items) }
     ensures numbered { OnOk result (AreNumbered files.entry.schema.now.constants.items (texts_of dictionary.old) (texts_of dictionary.new)) }
+    ensures fault { IfErr result (λ fault. IsWriteFault fault ⊎ IsUnmarked (W.contents (inner_of out.old)) (W.contents (inner_of out.new))) }
+    ensures quiet { OnOk result (IsUnmarked (W.contents (inner_of out.old)) (W.contents (inner_of out.new))) }
 {
-    let mut text = input_text(alloc, sources, files.schema, files.paths, dictionary)?;
-    if files.end_mark {
-        text.extend_from_slice(END_MARK)?;
+    let mut writer = InputWriter::new(alloc, out);
+    let done = append_input(
+        alloc,
+        sources,
+        files.schema,
+        files.paths,
+        dictionary,
+        &mut writer,
+    );
+    let InputWriter {
+        out,
+        mut lines,
+        broken,
+    } = writer;
+    // No effect at run time: the proof reads what was written from this use.
+    let _ = &*out;
+    if broken {
+        return Err(Fault::Write);
     }
-    Ok(text)
+    match done {
+        Ok(()) => {}
+        Err(InputFault::Tables(fault)) => return Err(fault),
+        Err(InputFault::Stopped) => return Err(Fault::NoMemory),
+    }
+    lines.extend_from_slice(END_MARK)?;
+    Ok(lines)
 }
 
-/// The same by the dictionary of that name, and the dictionary's text after it, if that has grown.
-fn encoded_with<'a, S: Sources<'a>>(
+/// The input text of the files, but for the lines that are written at once where it is to have an end mark. New texts go to the end of the dictionary.
+fn begin_input<'a, S: Sources<'a>, W: Write>(
+    alloc: Global,
+    sources: &S,
+    files: Files<'_, 'a>,
+    dictionary: &mut Dictionary,
+    out: &mut Watched<W>,
+) -> Result<Vec<u8>, Fault<'a>>
+    ensures input { IfOk result (λ rest. IsBegunBy (S.content sources.now) files.entry.schema.now (map (λ s. s.now) files.entry.paths.now) (texts_of dictionary.new)
+        files.entry.end_mark (W.contents (inner_of out.old)) (W.contents (inner_of out.new)) rest.items) }
+    ensures numbered { OnOk result (AreNumbered files.entry.schema.now.constants.items (texts_of dictionary.old) (texts_of dictionary.new)) }
+    ensures fault { IfErr result (λ fault. IsWriteFault fault ⊎ StaysUnmarked files.entry.end_mark (W.contents (inner_of out.old)) (W.contents (inner_of out.new))) }
+    ensures quiet { OnOk result (StaysUnmarked files.entry.end_mark (W.contents (inner_of out.old)) (W.contents (inner_of out.new))) }
+{
+    if files.end_mark {
+        stream_input(alloc, sources, files, dictionary, out)
+    } else {
+        input_text(alloc, sources, files.schema, files.paths, dictionary)
+    }
+}
+
+/// Begins with the dictionary of that name, and gives what is left to be written, and the dictionary's text after it, if that has grown.
+fn begin_with<'a, S: Sources<'a>, W: Write>(
     alloc: Global,
     sources: &S,
     files: Files<'_, 'a>,
     name: &'a str,
+    out: &mut Watched<W>,
 ) -> Result<(Vec<u8>, Option<Vec<u8>>), Fault<'a>>
-    ensures { IfOk result (λ made. IsEncodedBy (S.content sources.now) files.entry.schema.now (map (λ s. s.now) files.entry.paths.now) (Some name.now)
-        files.entry.end_mark made.0.items) }
+    ensures input { IfOk result (λ made. IsEncodedOnto (S.content sources.now) files.entry.schema.now (map (λ s. s.now) files.entry.paths.now) (Some name.now)
+        files.entry.end_mark (W.contents (inner_of out.old)) (W.contents (inner_of out.new)) made.0.items) }
+    ensures fault { IfErr result (λ fault. IsWriteFault fault ⊎ StaysUnmarked files.entry.end_mark (W.contents (inner_of out.old)) (W.contents (inner_of out.new))) }
+    ensures quiet { OnOk result (StaysUnmarked files.entry.end_mark (W.contents (inner_of out.old)) (W.contents (inner_of out.new))) }
 {
     let mut dictionary = dictionary_of(alloc, sources, name, true)?;
     let count = dictionary.len();
-    let text = marked_text(alloc, sources, files, &mut dictionary)?;
+    let rest = begin_input(alloc, sources, files, &mut dictionary, out)?;
     let kept = grown_text(alloc, &dictionary, count)?;
-    Ok((text, kept))
+    Ok((rest, kept))
 }
 
 /// Encodes with a dictionary, which no other command writes meanwhile.
@@ -153,10 +202,10 @@ fn encode_with<'a, S: Sources<'a>, D: Drafts, W: Write>(
 ) -> Result<(), Fault<'a>>
     ensures written { OnOk result (WritesInput (S.content sources.now) files.entry.schema.now (map (λ s. s.now) files.entry.paths.now) (Some name.now)
         files.entry.end_mark (W.contents (inner_of out.old)) (W.contents (inner_of out.new))) }
-    ensures fault { IfErr result (λ fault. IsWriteFault fault ⊎ (W.contents (inner_of out.new) ≡ W.contents (inner_of out.old))) }
+    ensures fault { IfErr result (λ fault. IsWriteFault fault ⊎ StaysUnmarked files.entry.end_mark (W.contents (inner_of out.old)) (W.contents (inner_of out.new))) }
 {
     let draft = begin_dictionary(drafts, name)?;
-    match encoded_with(alloc, sources, files, name) {
+    match begin_with(alloc, sources, files, name, out) {
         Ok(made) => write_with(drafts, draft, name, made, out),
         Err(fault) => {
             drafts.discard(draft);
@@ -174,14 +223,14 @@ fn encode_without<'a, S: Sources<'a>, W: Write>(
 ) -> Result<(), Fault<'a>>
     ensures written { OnOk result (WritesInput (S.content sources.now) files.entry.schema.now (map (λ s. s.now) files.entry.paths.now) None
         files.entry.end_mark (W.contents (inner_of out.old)) (W.contents (inner_of out.new))) }
-    ensures fault { IfErr result (λ fault. IsWriteFault fault ⊎ (W.contents (inner_of out.new) ≡ W.contents (inner_of out.old))) }
+    ensures fault { IfErr result (λ fault. IsWriteFault fault ⊎ StaysUnmarked files.entry.end_mark (W.contents (inner_of out.old)) (W.contents (inner_of out.new))) }
 {
     if needs_dictionary(files.schema) {
         return Err(Fault::Words(WordFault::NoDictionary));
     }
     let mut none = Dictionary::new(alloc);
-    let text = marked_text(alloc, sources, files, &mut none)?;
-    write_text(text.as_slice(), out)
+    let rest = begin_input(alloc, sources, files, &mut none, out)?;
+    write_text(rest.as_slice(), out)
 }
 
 /// Encodes by the schema that was read.
@@ -196,7 +245,7 @@ fn encode_by<'a, S: Sources<'a>, D: Drafts, W: Write>(
     requires read { IsReadSchema (S.content sources.now asked.schema.now) schema.now }
     ensures written { OnOk result (HasEncoded (S.content sources.now) asked.entry.schema.now (map (λ s. s.now) asked.entry.files.now) (option_map (λ s. s.now) asked.entry.dictionary)
         asked.entry.end_mark (W.contents (inner_of out.old)) (W.contents (inner_of out.new))) }
-    ensures fault { IfErr result (λ fault. IsWriteFault fault ⊎ (W.contents (inner_of out.new) ≡ W.contents (inner_of out.old))) }
+    ensures fault { IfErr result (λ fault. IsWriteFault fault ⊎ StaysUnmarked asked.entry.end_mark (W.contents (inner_of out.old)) (W.contents (inner_of out.new))) }
 {
     let paths = paths_of(alloc, schema, asked.files)?;
     if is_input_twice(&[asked.schema], paths.as_slice()) {
@@ -213,8 +262,8 @@ fn encode_by<'a, S: Sources<'a>, D: Drafts, W: Write>(
     }
 }
 
-/// Writes the input text of the files, and then keeps the dictionary. At a fault nothing is written, unless the writer or the dictionary's file
-/// failed.
+/// Writes the input text of the files, and then keeps the dictionary. With an end mark lines are written as they are read; else the text is written when it is
+/// whole. So at a fault nothing is written, or a beginning without its end mark, unless the writer or the dictionary's file failed.
 pub fn encode_files<'a, S: Sources<'a>, D: Drafts, W: Write>(
     alloc: Global,
     sources: &S,
@@ -224,7 +273,7 @@ pub fn encode_files<'a, S: Sources<'a>, D: Drafts, W: Write>(
 ) -> Result<(), Fault<'a>>
     ensures written { OnOk result (HasEncoded (S.content sources.now) asked.entry.schema.now (map (λ s. s.now) asked.entry.files.now) (option_map (λ s. s.now) asked.entry.dictionary)
         asked.entry.end_mark (W.contents (inner_of out.old)) (W.contents (inner_of out.new))) }
-    ensures fault { IfErr result (λ fault. IsWriteFault fault ⊎ (W.contents (inner_of out.new) ≡ W.contents (inner_of out.old))) }
+    ensures fault { IfErr result (λ fault. IsWriteFault fault ⊎ StaysUnmarked asked.entry.end_mark (W.contents (inner_of out.old)) (W.contents (inner_of out.new))) }
 {
     let schema = schema_of(alloc, sources, asked.schema)?;
     encode_by(alloc, sources, drafts, &schema, asked, out)

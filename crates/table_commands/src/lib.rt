@@ -1,12 +1,14 @@
 //! The commands `encode`, `decode` and `kinds`, from words to what is written.
 //!
 //! A program asks `is_of_tables` whether a line is of one of these commands, and then calls `answer_tables`; all other lines are `console`'s. At a
-//! fault nothing is written to standard output, unless the writer or the dictionary's file failed.
+//! fault nothing is written to standard output, or of an input that is to have an end mark a beginning without it, unless the writer or the dictionary's
+//! file failed.
 #![tactic(auto)]
 
 mod answering;
 mod decoding;
 mod encoding;
+mod input_writer;
 mod listing;
 
 pub use answering::{answer_tables, is_of_tables, refuse, report};

@@ -13,7 +13,7 @@ pub trait Drafts {
     /// Begins a file of that name, beside the old one. It fails while another one is begun.
     fn begin(&self, name: &str) -> io::Result<Self::Draft>;
 
-    /// Writes the text, and puts the file in the old one's place.
+    /// Writes the text, and puts the file in the old one's place. Where that fails, only the old one is left.
     fn keep(&self, draft: Self::Draft, text: &[u8]) -> io::Result<()>;
 
     /// Leaves the old file as it is.
@@ -41,6 +41,12 @@ impl<'a> DiskDrafts<'a> {
     }
 }
 
+/// Writes a text to a file, and waits until the disk has it.
+fn write_through(file: &mut File, text: &[u8]) -> io::Result<()> {
+    file.write_all(text)?;
+    file.sync_all()
+}
+
 impl Drafts for DiskDrafts<'_> {
     type Draft = Draft;
 
@@ -57,9 +63,14 @@ impl Drafts for DiskDrafts<'_> {
             beside,
             name,
         } = draft;
-        file.write_all(text)?;
-        file.sync_all()?;
-        fs::rename(self.rt, beside.as_str(), name.as_str())
+        let written = match write_through(&mut file, text) {
+            Ok(()) => fs::rename(self.rt, beside.as_str(), name.as_str()),
+            Err(error) => Err(error),
+        };
+        if written.is_err() {
+            let _ = fs::remove_file(self.rt, beside.as_str());
+        }
+        written
     }
 
     fn discard(&self, draft: Draft) {

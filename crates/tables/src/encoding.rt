@@ -81,6 +81,7 @@ fn encode_some<F: TableFiles, O: LineSink>(
         × ((first : O) (taken : List ℕ) → O.took first out.old taken → O.took first out.new (taken ++ lines))) }
     ensures refused { IfErr result (IsInputFault tables.now (F.content files.now) (texts_of dictionary.new)) }
     ensures grows { OnOk result (Grows (texts_of dictionary.old) (texts_of dictionary.new)) }
+    ensures stays { (first : O) → O.stays first out.old → O.stays first out.new }
 {
     for place in 0..tables.len() {
         let table = &tables[place];
@@ -142,6 +143,7 @@ pub fn encode<F: TableFiles, O: LineSink>(
     ensures refused { IfErr result (IsInputFault schema.now.inputs.items (F.content files.now) (texts_of dictionary.new)) }
     ensures grows { OnOk result (Grows (texts_of dictionary.old) (texts_of dictionary.new)) }
     ensures numbered { OnOk result (AreNumbered schema.now.constants.items (texts_of dictionary.old) (texts_of dictionary.new)) }
+    ensures stays { (first : O) → O.stays first out.old → O.stays first out.new }
 {
     let tables = schema.inputs.as_slice();
     if number_constants(alloc, schema.constants.as_slice(), dictionary).is_err() {

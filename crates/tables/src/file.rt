@@ -54,6 +54,7 @@ fn encode_block<O: LineSink>(
         → (last : Bool) → MayFollow last block tail → strip_bom file ≡ (done ++ block) ++ tail
         → IfErr result (λ r. AreRefused (names_of table.now) table.now.columns.items target.entry.epochs file (texts_of dictionary.new) r.fault) }
     ensures grows { OnOk result (Grows (texts_of dictionary.old) (texts_of dictionary.new)) }
+    ensures stays { (first : O) → O.stays first out.old → O.stays first out.new }
 {
     match progress {
         Progress::Header => encode_first(
@@ -158,6 +159,7 @@ pub fn encode_file<R: Read + Drop, O: LineSink>(
         × ((first : O) (taken : List ℕ) → O.took first out.old taken → O.took first out.new (taken ++ lines))) }
     ensures refused { IfErr result (IsFileFault table.now (R.remaining file) (texts_of dictionary.new)) }
     ensures grows { OnOk result (Grows (texts_of dictionary.old) (texts_of dictionary.new)) }
+    ensures stays { (first : O) → O.stays first out.old → O.stays first out.new }
 {
     let target = Target {
         epochs: table.epochs,

@@ -1,6 +1,6 @@
 //! Where the lines of an input text go.
 
-ghost use Rattle.std.specs.Prelude.{◌≡◌, ◌++◌, ℕ, List, OnOk};
+ghost use Rattle.std.specs.Prelude.{◌≡◌, ◌++◌, ℕ, List, OnOk, ⊤};
 ghost use Rattle.csv_cells.specs.Encoded.{line_text};
 ghost use Rattle.tables.specs.declared.line_sink.SinkFault.TheVariants as fault;
 
@@ -28,17 +28,24 @@ pub trait LineSink {
     // Since the first it has taken these lines.
     ghost took: { (first now : Self) → List ℕ → Type 0 };
 
+    // What is true of it since the first, whether it takes what it is given or refuses it.
+    ghost stays: { (first now : Self) → Type 0 };
+
     /// Takes whole lines.
     fn append(&mut self, lines: &[u8]) -> Result<(), SinkFault>
-        ensures { (first : Self) (taken : List ℕ) → took first self.old taken → OnOk result (took first self.new (taken ++ lines.now)) };
+        ensures taken { (first : Self) (taken : List ℕ) → took first self.old taken → OnOk result (took first self.new (taken ++ lines.now)) }
+        ensures stays { (first : Self) → stays first self.old → stays first self.new };
 
     /// Takes the line of a record.
     fn append_row(&mut self, name: &[u8], numbers: &[i64]) -> Result<(), SinkFault>
-        ensures { (first : Self) (taken : List ℕ) → took first self.old taken → OnOk result (took first self.new (taken ++ line_text name.now numbers.now)) };
+        ensures taken { (first : Self) (taken : List ℕ) → took first self.old taken → OnOk result (took first self.new (taken ++ line_text name.now numbers.now)) }
+        ensures stays { (first : Self) → stays first self.old → stays first self.new };
 }
 
 impl LineSink for Vec<u8> {
     ghost took = { λ first now taken. now.items ≡ first.items ++ taken };
+
+    ghost stays = { λ _ _. ⊤ };
 
     #[inline(always)]
     fn append(&mut self, lines: &[u8]) -> Result<(), SinkFault> {

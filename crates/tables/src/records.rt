@@ -44,7 +44,8 @@ fn append_head<O: LineSink>(
     last: Option<i64>,
     epoch: Option<i64>,
 ) -> Result<(), SinkFault>
-    ensures { (first : O) (taken : List ℕ) → O.took first out.old taken → OnOk result (O.took first out.new (taken ++ head_text shared.now last epoch)) }
+    ensures taken { (first : O) (taken : List ℕ) → O.took first out.old taken → OnOk result (O.took first out.new (taken ++ head_text shared.now last epoch)) }
+    ensures stays { (first : O) → O.stays first out.old → O.stays first out.new }
 {
     let Some(now) = epoch else {
         return Ok(());
@@ -94,8 +95,9 @@ fn append_row<O: LineSink>(
     last: Option<i64>,
     numbers: &[i64],
 ) -> Result<(), SinkFault>
-    ensures { (first : O) (taken : List ℕ) → O.took first out.old taken
+    ensures taken { (first : O) (taken : List ℕ) → O.took first out.old taken
         → OnOk result (O.took first out.new (taken ++ (head_text target.entry.shared.now last (epoch_of target.entry.epochs numbers.now) ++ line_text target.entry.name.now numbers.now))) }
+    ensures stays { (first : O) → O.stays first out.old → O.stays first out.new }
 {
     append_head(
         out,
@@ -131,6 +133,7 @@ fn append_rows<O: LineSink>(
     ensures refused { IfErr result (λ r. Stops columns.now target.entry.epochs (texts_of dictionary.new) last (ReadsOn reader.old) r.fault) }
     ensures kept { IfErr result (λ r. NeedsNoReason r.fault ⊎ Grows (texts_of dictionary.old) (texts_of dictionary.new)) }
     ensures grows { OnOk result (Grows (texts_of dictionary.old) (texts_of dictionary.new)) }
+    ensures stays { (first : O) → O.stays first out.old → O.stays first out.new }
 {
     let mut row = ByteRecord::new(alloc);
     let mut numbers = Vec::new(alloc);
@@ -181,6 +184,7 @@ pub fn encode_first<O: LineSink>(
         × ((first : O) (taken : List ℕ) → O.took first out.old taken → O.took first out.new (taken ++ lines))) }
     ensures refused { IfErr result (λ r. AreRefused (map (λ v. v.items) names.now) columns.now target.entry.epochs text.now (texts_of dictionary.new) r.fault) }
     ensures grows { OnOk result (Grows (texts_of dictionary.old) (texts_of dictionary.new)) }
+    ensures stays { (first : O) → O.stays first out.old → O.stays first out.new }
 {
     let mut reader = new_reader(alloc, text);
     match read_header(alloc, &mut reader, names) {
@@ -213,6 +217,7 @@ pub fn encode_next<O: LineSink>(
     ensures refused { IfErr result (λ r. Stops columns.now target.entry.epochs (texts_of dictionary.new) last (BeginsWith text.now) r.fault) }
     ensures kept { IfErr result (λ r. NeedsNoReason r.fault ⊎ Grows (texts_of dictionary.old) (texts_of dictionary.new)) }
     ensures grows { OnOk result (Grows (texts_of dictionary.old) (texts_of dictionary.new)) }
+    ensures stays { (first : O) → O.stays first out.old → O.stays first out.new }
 {
     let mut reader = new_reader(alloc, text);
     append_rows(alloc, columns, target, dictionary, &mut reader, last, out)

@@ -1,9 +1,10 @@
-use Rattle.std.proofs.Common.{List, Option, ℕ, ap, map, subst, sym}
+use Rattle.std.proofs.Common.{List, Option, ℕ, ap, inr, map, subst, sym}
 use Rattle.std.specs.Borrow.{Bor}
 use Rattle.std.specs.Prelude.{Some, None, option_map}
 use Rattle.collector.specs.Watching.{inner_of}
 use Rattle.table_commands.specs.Done.{HasEncoded, WritesInput}
-use Rattle.table_commands.proofs.Results.{on-ok}
+use Rattle.table_commands.proofs.Results.{any-err, on-ok}
+use Rattle.table_commands.proofs.Streamed.{none-stays}
 use Rattle.table_commands.proofs.Writing.{encoded}
 use Rattle.table_commands.proofs.encoding.encode_by.Goals as goal
 
@@ -40,3 +41,9 @@ returns-clause-written g c =
     c.in_ok-paths.ensures (subst (λ d. WritesInput known schema paths d asked.end_mark old new) (sym (ap text_now c.in-None.is))
     (subst (λ ps. WritesInput known schema (texts_now ps) None asked.end_mark old new) c.as_slice-2.ensures.value w)))
     c.encode_without.ensures.written
+
+pub returns-in_err-paths-clause-fault : goal.returns-in_err-paths-clause-fault
+returns-in_err-paths-clause-fault g c = any-err c.from_residual.result (λ e. inr (none-stays c.args.asked.end_mark _))
+
+pub returns-then-is_input_twice-clause-fault : goal.returns-then-is_input_twice-clause-fault
+returns-then-is_input_twice-clause-fault g c = inr (none-stays c.args.asked.end_mark _)

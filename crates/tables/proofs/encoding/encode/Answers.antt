@@ -22,7 +22,7 @@ returns-then-not-has_epochs-clause-input g c =
       long,
       one-completes known (blanks tables) texts 0 tables none completes,
       (lines, joined, inr (none, refl)),
-      λ first taken h. subst (λ (t : List ℕ). g.O.LineSink.took first c.encode_some.new.out t) (append_assoc taken begin lines) (took first (taken ++ begin) (c.in-Ok.ensures first taken h)),
+      λ first taken h. subst (λ (t : List ℕ). g.O.LineSink.took first c.encode_some.new.out t) (append_assoc taken begin lines) (took first (taken ++ begin) (c.in-Ok.ensures.taken first taken h)),
     )
 
 pub returns-then-not-has_epochs-clause-grows : goal.returns-then-not-has_epochs-clause-grows

@@ -19,6 +19,7 @@ loop-place-init g c = record {
     none-joined c.args.own c.args.shared.now before (texts_of c.args.dictionary.now) 0,
     λ first taken h. subst (λ (t : List ℕ). g.O.LineSink.took first c.args.out.now t) (sym (append-nil taken)) h,
   );
+  stays = λ first h. h;
   grown = ([], sym (append-nil (texts_of c.args.dictionary.now)));
 }
 
@@ -42,6 +43,7 @@ loop-place-preserved-then-has_own-own g c =
             skip-joined c.args.own c.args.shared.now texts (texts_of c.loop-place.dictionary) n tables table lines lt at not joined,
             took,
           );
+      stays = inv.stays;
       grown = inv.grown;
     }
 
@@ -84,6 +86,7 @@ loop-place-preserved g c =
                 (add-joined c.args.own c.args.shared.now texts old grows.0 n file tables table lines more lt within at is (rw (← grows.1) encoded) joined),
             λ first taken h. subst (λ (t : List ℕ). g.O.LineSink.took first c.encode_file.new.out t) (append_assoc taken lines more) (took_file first (taken ++ lines) (took first taken h)),
           );
+      stays = λ first h. c.encode_file.ensures.stays first (inv.stays first h);
       grown = grown-twice _ _ _ inv.grown grows;
     }
 

@@ -10,5 +10,6 @@ invariant-loop-place g l = record {
       × Completes l.own (g.F.TableFiles.content l.files) before texts 0 (take l.place l.tables)
       × AreJoined l.own l.shared texts (texts_of l.dictionary) 0 (take l.place l.tables) lines
       × ((first : g.row.O.Denot) (taken : List ℕ) → g.O.LineSink.took first l.fn.out taken → g.O.LineSink.took first l.out (taken ++ lines));
+  stays : (first : g.row.O.Denot) → g.O.LineSink.stays first l.fn.out → g.O.LineSink.stays first l.out;
   grown : Grows (texts_of l.fn.dictionary) (texts_of l.dictionary);
 }

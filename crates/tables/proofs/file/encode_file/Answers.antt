@@ -67,6 +67,7 @@ loop-block-preserved g c =
       lines = inv.lines ++ more;
       gone = gone;
       took = λ first taken h. subst (λ (t : List ℕ). g.O.LineSink.took first c.encode_block.new.out t) (append_assoc taken inv.lines more) (took first (taken ++ inv.lines) (inv.took first taken h));
+      stays = λ first h. c.encode_block.ensures.stays first (inv.stays first h);
       grown = grown-twice _ _ _ inv.grown c.in-Ok-encode_block.ensures.grows;
       consumed = c.fill.ensures.consumed (g.R.Read.remaining c.args.file) inv.consumed;
     }

@@ -18,6 +18,7 @@ invariant-loop-block g l = record {
   lines : List ℕ;
   gone : HaveGone l.table l.target (texts_of l.dictionary) l.progress (done ++ block_of l.blocks) lines;
   took : (first : g.row.O.Denot) (taken : List ℕ) → g.O.LineSink.took first l.fn.out taken → g.O.LineSink.took first l.out (taken ++ lines);
+  stays : (first : g.row.O.Denot) → g.O.LineSink.stays first l.fn.out → g.O.LineSink.stays first l.out;
   grown : Grows (texts_of l.fn.dictionary) (texts_of l.dictionary);
   consumed : Consumes (g.R.Read.remaining l.fn.file) (g.R.Read.remaining (inner_of l.source)) (handed l.source);
 }

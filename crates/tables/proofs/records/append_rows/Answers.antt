@@ -22,6 +22,7 @@ loop-count-init g c = record {
   ordered = none-ordered c.args.target.epochs c.args.last;
   grown = ([], sym (append-nil (texts_of c.args.dictionary.now)));
   written = λ first taken h. subst (λ (t : List ℕ). g.O.LineSink.took first c.args.out.now t) (sym (append-nil taken) ∙ ap (λ (t : List ℕ). taken ++ t) (no-rows c.args.target c.args.last)) h;
+  stays = λ first h. h;
   latest = no-epoch c.args.target c.args.last;
 }
 
@@ -36,7 +37,7 @@ loop-count-preserved g c =
     let zs : List ℤ = c.read_row.new.numbers.items in
     let epoch : c.epoch_value-epoch.result ≡ epoch_of target.epochs zs = c.epoch_value-epoch.ensures ∙ ap (λ x. epoch_of target.epochs x) c.as_slice.ensures.value in
     let on_time : IsLate c.loop-count.latest c.epoch_value-epoch.result → ⊥ = λ late. absurd (false≢true (sym c.if-is_late.false ∙ c.is_late.ensures.1 late)) in
-    let line = λ (first : g.row.O.Denot) (taken : List ℕ) (h : g.O.LineSink.took first c.loop-count.out taken). at-ok c.append_row.result c.in-Ok-append_row.is (c.append_row.ensures first taken h) in
+    let line = λ (first : g.row.O.Denot) (taken : List ℕ) (h : g.O.LineSink.took first c.loop-count.out taken). at-ok c.append_row.result c.in-Ok-append_row.is (c.append_row.ensures.taken first taken h) in
     let all = all-push c.args.columns.now (texts_of c.loop-count.dictionary) grows.0 inv.rows inv.all cells zs inv.spelled (rw grows.1 at says) in
     record {
       rows = inv.rows ++ cells ∷ [];
@@ -51,6 +52,7 @@ loop-count-preserved g c =
           ∙ append_assoc taken (rows_text target last inv.all) (row_text target c.loop-count.latest zs)
           ∙ ap (λ (x : List ℕ). taken ++ x) (ap (λ x. rows_text target last inv.all ++ row_text target x zs) inv.latest ∙ sym (rows-push target last inv.all zs)))
           (line first (taken ++ rows_text target last inv.all) (inv.written first taken h));
+      stays = λ first h. c.append_row.ensures.stays first (inv.stays first h);
       latest = epoch ∙ sym (last-push target last inv.all zs);
     }
 

@@ -14,5 +14,6 @@ invariant-loop-count g l = record {
   ordered : AreInOrder l.target.epochs l.fn.last all;
   grown : Grows (texts_of l.fn.dictionary) (texts_of l.dictionary);
   written : (first : g.row.O.Denot) (taken : List ℕ) → g.O.LineSink.took first l.fn.out taken → g.O.LineSink.took first l.out (taken ++ rows_text l.target l.fn.last all);
+  stays : (first : g.row.O.Denot) → g.O.LineSink.stays first l.fn.out → g.O.LineSink.stays first l.out;
   latest : l.latest ≡ last_epoch l.target l.fn.last all;
 }
