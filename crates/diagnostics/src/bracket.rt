@@ -1,6 +1,6 @@
 //! The forms of relation, and the brackets that are open at the end of a beginning of a query.
 
-use crate::words::{Said, is_among, said_of};
+use crate::words::{Said, is_among, last_word, said_of};
 
 /// The most brackets that can be open.
 const HEIGHT: usize = 64;
@@ -19,48 +19,21 @@ pub const FORMS: [&str; 10] = [
     "closure",
 ];
 
+/// How a join is written.
+pub const JOIN: &str = "the form is join(a, b; #0 = #0)";
+
 /// How each form is written.
 static SHAPES: [Said; 10] = [
-    Said {
-        words: &["select"],
-        text: "the form is select(a; #0)",
-    },
-    Said {
-        words: &["where"],
-        text: "the form is where(a; #0 > 1)",
-    },
-    Said {
-        words: &["concat"],
-        text: "the form is concat(a, b)",
-    },
-    Said {
-        words: &["except"],
-        text: "the form is except(a, b)",
-    },
-    Said {
-        words: &["intersect"],
-        text: "the form is intersect(a, b)",
-    },
-    Said {
-        words: &["join"],
-        text: "the form is join(a, b; #0 = #0)",
-    },
-    Said {
-        words: &["group"],
-        text: "the form is group(a; #0; count)",
-    },
-    Said {
-        words: &["distinct"],
-        text: "the form is distinct(a)",
-    },
-    Said {
-        words: &["iterate"],
-        text: "the form is iterate(3; x = a; distinct(x))",
-    },
-    Said {
-        words: &["closure"],
-        text: "the form is closure(3; x = a; select(x; #0))",
-    },
+    (&["select"], "the form is select(a; #0)"),
+    (&["where"], "the form is where(a; #0 > 1)"),
+    (&["concat"], "the form is concat(a, b)"),
+    (&["except"], "the form is except(a, b)"),
+    (&["intersect"], "the form is intersect(a, b)"),
+    (&["join"], JOIN),
+    (&["group"], "the form is group(a; #0; count)"),
+    (&["distinct"], "the form is distinct(a)"),
+    (&["iterate"], "the form is iterate(3; x = a; distinct(x))"),
+    (&["closure"], "the form is closure(3; x = a; select(x; #0))"),
 ];
 
 /// A round bracket that is open at the end of a beginning of a query.
@@ -74,23 +47,6 @@ pub struct OpenBracket<'a> {
     pub semicolons: usize,
 }
 
-/// The word at the end of a text, and what comes before it; empty where the text ends in a sign or a space.
-pub fn split_word(text: &[u8]) -> (&[u8], &[u8]) {
-    let length = text
-        .iter()
-        .rev()
-        .take_while(|byte| matches!(**byte, b'a'..=b'z' | b'0'..=b'9' | b'_'))
-        .count();
-    let (front, word) = text.split_at(text.len().saturating_sub(length));
-    (front.trim_ascii_end(), word)
-}
-
-/// The word at the end of a text.
-pub fn last_word(text: &[u8]) -> &[u8] {
-    let (_, word) = split_word(text);
-    word
-}
-
 /// Whether a word names a form.
 pub fn is_form(word: &[u8]) -> bool {
     is_among(&FORMS, word)
@@ -101,27 +57,47 @@ pub fn shape_of(form: &[u8]) -> Option<&'static str> {
     said_of(&SHAPES, form)
 }
 
-/// The last round bracket that isn't closed.
-pub fn open_bracket(text: &[u8]) -> Option<OpenBracket<'_>> {
+/// Where the last of some opening brackets stands that isn't closed.
+fn last_opened(text: &[u8], opening: &[u8], closing: &[u8]) -> Option<usize> {
     let mut closed: usize = 0;
-    let mut semicolons: usize = 0;
     for (at, byte) in text.iter().enumerate().rev() {
-        match *byte {
-            b')' => closed = closed.saturating_add(1),
-            b'(' if closed == 0 => {
-                let before = text.get(..at).unwrap_or(&[]).trim_ascii_end();
-                return Some(OpenBracket {
-                    name: last_word(before),
-                    before,
-                    semicolons,
-                });
+        if closing.contains(byte) {
+            closed = closed.saturating_add(1);
+        } else if opening.contains(byte) {
+            if closed == 0 {
+                return Some(at);
             }
-            b'(' => closed -= 1,
-            b';' if closed == 0 => semicolons = semicolons.saturating_add(1),
-            _ => {}
+            closed -= 1;
         }
     }
     None
+}
+
+/// How many `;` a text has that are inside no round bracket.
+fn count_semicolons(text: &[u8]) -> usize {
+    let mut open: usize = 0;
+    let mut count: usize = 0;
+    for byte in text {
+        match *byte {
+            b'(' => open = open.saturating_add(1),
+            b')' => open = open.saturating_sub(1),
+            b';' if open == 0 => count = count.saturating_add(1),
+            _ => {}
+        }
+    }
+    count
+}
+
+/// The last round bracket that isn't closed.
+pub fn open_bracket(text: &[u8]) -> Option<OpenBracket<'_>> {
+    let at = last_opened(text, b"(", b")")?;
+    let before = text.get(..at).unwrap_or(&[]).trim_ascii_end();
+    let behind = text.get(at.saturating_add(1)..).unwrap_or(&[]);
+    Some(OpenBracket {
+        name: last_word(before),
+        before,
+        semicolons: count_semicolons(behind),
+    })
 }
 
 /// The last round bracket that isn't closed and belongs to a form.
@@ -138,14 +114,6 @@ pub fn form_bracket(text: &[u8]) -> Option<OpenBracket<'_>> {
 
 /// The last bracket that isn't closed, round or square.
 pub fn last_open(text: &[u8]) -> Option<u8> {
-    let mut closed: usize = 0;
-    for byte in text.iter().rev() {
-        match *byte {
-            b')' | b']' => closed = closed.saturating_add(1),
-            b'(' | b'[' if closed == 0 => return Some(*byte),
-            b'(' | b'[' => closed -= 1,
-            _ => {}
-        }
-    }
-    None
+    let at = last_opened(text, b"([", b")]")?;
+    text.get(at).copied()
 }

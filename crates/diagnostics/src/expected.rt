@@ -1,68 +1,26 @@
 //! What can come at a place of a query: each kind of word is tried there.
 
-use crate::display::separator;
+use crate::display::Part::Text;
+use crate::display::{separator, write_parts};
+use crate::words::Said;
 use bumpalo::Bump;
 use parser::{UNEXPECTED, parse};
 use record_core::Refusal;
 use std::alloc::{AllocError, Global};
+use std::io;
 use std::io::Write;
-use std::{fmt, io};
 
 /// The longest text behind which words are tried, as each trial reads it once more.
 const LENGTH: usize = 65536;
 
 /// A word of each kind. A closure's word is a name, so it can come wherever a relation can.
-const WORDS: [&str; 38] = [
-    "a",
-    "1",
-    "#0",
-    "/",
-    ";",
-    ",",
-    "(",
-    ")",
-    "[",
-    "]",
-    "=",
-    "!=",
-    "<",
-    "<=",
-    ">",
-    ">=",
-    "+",
-    "-",
-    "*",
-    "input",
-    "let",
-    "output",
-    "select",
-    "where",
-    "concat",
-    "except",
-    "intersect",
-    "join",
-    "group",
-    "distinct",
-    "iterate",
-    "count",
-    "sum",
-    "min",
-    "max",
-    "and",
-    "or",
-    "not",
-];
+const WORDS: &str = "a 1 #0 / ; , ( ) [ ] = != < <= > >= + - * input let output \
+    select where concat except intersect join group distinct iterate count sum min max and or not";
 
-/// Words that have a name together, where all of them can come.
-struct Kind {
-    words: &'static [&'static str],
-    name: &'static str,
-}
-
-/// The kinds, each before those that are a part of it.
-static KINDS: [Kind; 6] = [
-    Kind {
-        words: &[
+/// Words that have a name together, where all of them can come; each row before those that are a part of it.
+static KINDS: [Said; 6] = [
+    (
+        &[
             "a",
             "select",
             "where",
@@ -74,45 +32,25 @@ static KINDS: [Kind; 6] = [
             "distinct",
             "iterate",
         ],
-        name: "a relation",
-    },
-    Kind {
-        words: &["1", "#0", "(", "-", "not", "["],
-        name: "a condition",
-    },
-    Kind {
-        words: &["1", "#0", "(", "-"],
-        name: "a number or a column",
-    },
-    Kind {
-        words: &["count", "sum", "min", "max"],
-        name: "an aggregate",
-    },
-    Kind {
-        words: &["+", "-", "*"],
-        name: "an operator",
-    },
-    Kind {
-        words: &["=", "!=", "<", "<=", ">", ">="],
-        name: "a comparison",
-    },
+        "a relation",
+    ),
+    (&["1", "#0", "(", "-", "not", "["], "a condition"),
+    (&["1", "#0", "(", "-"], "a number or a column"),
+    (&["count", "sum", "min", "max"], "an aggregate"),
+    (&["+", "-", "*"], "an operator"),
+    (&["=", "!=", "<", "<=", ">", ">="], "a comparison"),
 ];
 
-/// What can come at a place.
+/// What can come at a place: a kind of words, or a word in quotes.
 #[derive(Clone, Copy)]
-enum Expected {
-    /// A kind of words, by its name.
-    Kind(&'static str),
-    Word(&'static str),
+struct Expected {
+    text: &'static str,
+    quote: &'static str,
 }
 
-impl fmt::Display for Expected {
-    fn fmt<W: fmt::Write>(&self, f: &mut fmt::Formatter<W>) -> fmt::Result {
-        match *self {
-            Expected::Kind(name) => write!(f, "{name}"),
-            Expected::Word(word) => write!(f, "`{word}`"),
-        }
-    }
+/// A kind of words, by its name.
+fn kind_called(text: &'static str) -> Expected {
+    Expected { text, quote: "" }
 }
 
 /// Why a text is no query, if it isn't one.
@@ -138,7 +76,7 @@ fn follows(alloc: Global, before: &[u8], word: &str) -> Result<bool, AllocError>
 /// The words that can come after a beginning of a query.
 fn following(alloc: Global, before: &[u8]) -> Result<Vec<&'static str>, AllocError> {
     let mut words = Vec::new(alloc);
-    for word in WORDS {
+    for word in WORDS.split(' ') {
         if follows(alloc, before, word)? {
             words.push(word)?;
         }
@@ -174,10 +112,13 @@ fn without(
 /// What a word is that can come alone.
 fn alone(word: &'static str) -> Expected {
     match word.as_bytes() {
-        b"a" => Expected::Kind("a name"),
-        b"1" => Expected::Kind("a number"),
-        b"#0" => Expected::Kind("a column"),
-        _ => Expected::Word(word),
+        b"a" => kind_called("a name"),
+        b"1" => kind_called("a number"),
+        b"#0" => kind_called("a column"),
+        _ => Expected {
+            text: word,
+            quote: "`",
+        },
     }
 }
 
@@ -187,10 +128,10 @@ fn take_kinds(
     words: &mut Vec<&'static str>,
     found: &mut Vec<Expected>,
 ) -> Result<(), AllocError> {
-    for kind in &KINDS {
-        if has_all(words.as_slice(), kind.words) {
-            found.push(Expected::Kind(kind.name))?;
-            *words = without(alloc, words.as_slice(), kind.words)?;
+    for (kind, name) in &KINDS {
+        if has_all(words.as_slice(), kind) {
+            found.push(kind_called(name))?;
+            *words = without(alloc, words.as_slice(), kind)?;
         }
     }
     Ok(())
@@ -205,7 +146,7 @@ fn possible_words(alloc: Global, before: &[u8]) -> Result<Vec<Expected>, AllocEr
         found.push(alone(word))?;
     }
     if refusal_of(alloc, before).is_none() {
-        found.push(Expected::Kind("the end of the query"))?;
+        found.push(kind_called("the end of the query"))?;
     }
     Ok(found)
 }
@@ -225,7 +166,8 @@ pub fn write_expected<W: Write>(alloc: Global, before: &[u8], writer: &mut W) ->
         } else {
             separator(index, count, " or ")
         };
-        write!(writer, "{sign}{part}")?;
+        let quote = Text(part.quote);
+        write_parts(&[Text(sign), quote, Text(part.text), quote], writer)?;
     }
     Ok(())
 }

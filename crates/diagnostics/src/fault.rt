@@ -3,7 +3,8 @@
 ghost use Rattle.std.specs.Prelude.{◌≡◌};
 ghost use Rattle.diagnostics.specs.Faults.{status_of};
 
-use crate::display::Plain;
+use crate::display::Part::{Path, Text};
+use crate::display::write_line;
 use collector::Number;
 use std::io;
 use std::io::Write;
@@ -60,14 +61,8 @@ impl Fault {
     /// schedule's.
     pub fn write_line<W: Write>(&self, query: &str, input: &str, writer: &mut W) -> io::Result<()> {
         match self {
-            Fault::ReadQuery => {
-                let path = Plain(query);
-                writeln!(writer, "cannot read {path}")
-            }
-            Fault::ReadInput => {
-                let path = Plain(input);
-                writeln!(writer, "cannot read {path}")
-            }
+            Fault::ReadQuery => write_line(&[Text("cannot read "), Path(query)], writer),
+            Fault::ReadInput => write_line(&[Text("cannot read "), Path(input)], writer),
             _ => writeln!(writer, "{self}"),
         }
     }

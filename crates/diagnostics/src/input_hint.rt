@@ -1,5 +1,7 @@
 //! Hints for words of an input text that look like another format.
 
+use crate::words::{begins_with, is_among};
+
 /// The line ends in two bytes.
 const CARRIAGE_RETURN: &str = "the line ends in CR LF; remove the CR, as by tr -d '\\r'";
 
@@ -10,12 +12,6 @@ const SIGN: &str =
 /// The text is what gzip made.
 pub const COMPRESSED: &str = "the text is compressed; unpack it first, as by gzip -dc";
 
-/// What is missing has no number yet.
-const NULL: &str = "there is no null; give what is missing a number";
-
-/// A date has signs between its numbers.
-const DATE: &str = "a date is one number, as 20240131 or the number of days since some day";
-
 /// Whether bytes begin as what gzip makes does.
 pub fn is_compressed(bytes: &[u8]) -> bool {
     bytes.starts_with(b"\x1f\x8b")
@@ -23,28 +19,34 @@ pub fn is_compressed(bytes: &[u8]) -> bool {
 
 /// Whether a word is a date, as 2024-01-31.
 fn is_date(word: &[u8]) -> bool {
+    for (place, byte) in word.iter().enumerate() {
+        let is_right = if place == 4 || place == 7 {
+            is_among(&["-", "/", "."], &[*byte])
+        } else {
+            byte.is_ascii_digit()
+        };
+        if !is_right {
+            return false;
+        }
+    }
     word.len() == 10
-        && word.iter().enumerate().all(|(place, byte)| {
-            if place == 4 || place == 7 {
-                matches!(*byte, b'-' | b'/' | b'.')
-            } else {
-                byte.is_ascii_digit()
-            }
-        })
 }
 
 /// Whether a word says that a value is missing.
 fn is_null(word: &[u8]) -> bool {
-    [b"null".as_slice(), b"na", b"n/a", b"nan", b"none", b"\\n"]
-        .iter()
-        .any(|null| word.eq_ignore_ascii_case(null))
+    for null in ["null", "na", "n/a", "nan", "none", "\\n"] {
+        if word.eq_ignore_ascii_case(null.as_bytes()) {
+            return true;
+        }
+    }
+    false
 }
 
 /// The hint for a word in which a sign is between fields in place of a space.
 fn of_separator(word: &[u8]) -> Option<&'static str> {
     if word.contains(&b'\t') {
         Some("fields are separated by one space, not by a tab")
-    } else if word.iter().any(|byte| matches!(*byte, b',' | b';' | b'|')) {
+    } else if word.contains(&b',') || word.contains(&b';') || word.contains(&b'|') {
         Some(SIGN)
     } else {
         None
@@ -53,38 +55,36 @@ fn of_separator(word: &[u8]) -> Option<&'static str> {
 
 /// The question where a line has two spaces together or one at its end, by its first word. An `epoch` line has no fields.
 pub fn of_gap(first: &[u8]) -> &'static str {
-    match first {
-        b"epoch" => "",
-        _ => "; is a field empty?",
+    if is_among(&["epoch"], first) {
+        ""
+    } else {
+        "; is a field empty?"
     }
 }
 
-/// Whether a word begins as a comment does elsewhere.
-fn is_comment(word: &[u8]) -> bool {
-    matches!(
-        word,
-        [b'#', ..] | [b'-', b'-', ..] | [b'/', b'/' | b'*', ..]
-    )
+/// Whether a text begins with a digit.
+fn begins_with_digit(text: &[u8]) -> bool {
+    matches!(text, [b'0'..=b'9', ..])
 }
 
 /// The hint for a line's first word, if it is no name.
-pub fn of_first(word: &[u8]) -> Option<&'static str> {
+pub fn of_first(word: &[u8]) -> &'static str {
     if word.starts_with(b"\xef\xbb\xbf") {
-        Some("the text begins with a byte order mark; remove it")
+        "the text begins with a byte order mark; remove it"
     } else if is_compressed(word) {
-        Some(COMPRESSED)
+        COMPRESSED
     } else if word.ends_with(b"\r") {
-        Some(CARRIAGE_RETURN)
-    } else if is_comment(word) {
-        Some("there are no comments")
+        CARRIAGE_RETURN
+    } else if begins_with(&["#", "--", "//", "/*"], word) {
+        "there are no comments"
     } else {
-        of_separator(word).or(Some(of_letters(word)))
+        of_separator(word).unwrap_or(of_letters(word))
     }
 }
 
 /// The hint for a line's first word whose letters make it no name.
 fn of_letters(word: &[u8]) -> &'static str {
-    if matches!(word, [b'0'..=b'9' | b'-' | b'+', ..]) {
+    if begins_with_digit(word) || begins_with(&["-", "+"], word) {
         "a record begins with the name of its input"
     } else if word.eq_ignore_ascii_case(b"epoch") {
         "epoch is in lower case"
@@ -97,42 +97,64 @@ fn of_letters(word: &[u8]) -> &'static str {
 
 /// The hint for digits, with a sign or none, if they are no number.
 fn of_digits(word: &[u8]) -> &'static str {
-    match word {
-        [b'+', ..] => "a number has no +",
-        [b'-', b'0'] => "zero is written 0",
-        [b'-', b'0', ..] | [b'0', ..] => "a number doesn't begin with 0",
-        _ => "a number is at least -9223372036854775808 and at most 9223372036854775807",
+    if word.starts_with(b"+") {
+        "a number has no +"
+    } else if is_among(&["-0"], word) {
+        "zero is written 0"
+    } else if begins_with(&["-0", "0"], word) {
+        "a number doesn't begin with 0"
+    } else {
+        "a number is at least -9223372036854775808 and at most 9223372036854775807"
     }
 }
 
 /// Whether each word of a line after the first begins with a letter or a quote, as in a header line.
 fn is_header(line: &[u8]) -> bool {
-    line.split(|byte| *byte == b' ').skip(1).all(
-        |word| matches!(word, [b'a'..=b'z' | b'A'..=b'Z' | b'"', ..]),
-    )
+    let mut is_space = false;
+    for byte in line {
+        if is_space && !byte.is_ascii_alphabetic() && *byte != b'"' {
+            return false;
+        }
+        is_space = *byte == b' ';
+    }
+    !is_space
+}
+
+/// Whether a text has only digits, and at least one.
+fn is_digits(text: &[u8]) -> bool {
+    for byte in text {
+        if !byte.is_ascii_digit() {
+            return false;
+        }
+    }
+    !text.is_empty()
 }
 
 /// The hint for a field of a line, if it is no number.
-pub fn of_field(word: &[u8], line: &[u8]) -> Option<&'static str> {
+pub fn of_field(word: &[u8], line: &[u8]) -> &'static str {
     let digits = match word {
         [b'-' | b'+', rest @ ..] => rest,
         _ => word,
     };
-    let is_plain = !digits.is_empty() && digits.iter().all(|byte| byte.is_ascii_digit());
-    match (word, of_separator(word)) {
-        ([.., b'\r'], _) => Some(CARRIAGE_RETURN),
-        (_, Some(hint)) => Some(hint),
-        ([b'#', ..], _) => Some("there are no comments"),
-        _ if is_plain => Some(of_digits(word)),
-        _ if is_date(word) => Some(DATE),
-        _ if is_null(word) => Some(NULL),
-        _ if matches!(digits, [b'0'..=b'9' | b'.', ..]) && digits.contains(&b'.') => Some(
-            "numbers are whole; write 12.50 as 1250 cents",
-        ),
-        _ if matches!(digits, [b'0'..=b'9', ..]) => Some(
-            "a number is digits, with a - before them if negative",
-        ),
-        _ if is_header(line) => Some("if this is a header line, leave it out"),
-        _ => Some("fields are whole numbers; give each string a number"),
+    if word.ends_with(b"\r") {
+        CARRIAGE_RETURN
+    } else if let Some(hint) = of_separator(word) {
+        hint
+    } else if word.starts_with(b"#") {
+        "there are no comments"
+    } else if is_digits(digits) {
+        of_digits(word)
+    } else if is_date(word) {
+        "a date is one number, as 20240131 or the number of days since some day"
+    } else if is_null(word) {
+        "there is no null; give what is missing a number"
+    } else if digits.starts_with(b".") || begins_with_digit(digits) && digits.contains(&b'.') {
+        "numbers are whole; write 12.50 as 1250 cents"
+    } else if begins_with_digit(digits) {
+        "a number is digits, with a - before them if negative"
+    } else if is_header(line) {
+        "if this is a header line, leave it out"
+    } else {
+        "fields are whole numbers; give each string a number"
     }
 }

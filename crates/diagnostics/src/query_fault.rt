@@ -1,11 +1,12 @@
 //! What is wrong with a query, with the names and the numbers involved.
 
-use crate::display::{Columns, Fields, Meant, Word};
+use crate::display::Part::{Byte, Meant, Number, Text, Word};
+use crate::display::{Part, is_printable, write_line, write_parts};
 use crate::expected::write_expected;
 use crate::hint::{hint, of_hash};
 use crate::names::{form_name, write_no_form, write_unknown};
+use crate::words::{begins_with, is_among};
 use bumpalo::Bump;
-use collector::Number;
 use parser::parse;
 use record_core::Span;
 use refusals::explanation_of;
@@ -33,10 +34,7 @@ fn arities(alloc: Global, text: &[u8]) -> Option<Arities> {
 /// Writes what the table says of a code.
 pub fn write_summary<W: Write>(code: u8, writer: &mut W) -> io::Result<()> {
     match explanation_of(code) {
-        Some(row) => {
-            let summary = row.summary;
-            writeln!(writer, "{summary}")
-        }
+        Some(row) => write_line(&[Text(row.summary)], writer),
         None => Ok(()),
     }
 }
@@ -48,40 +46,61 @@ fn before(text: &[u8], span: Span) -> &[u8] {
         .trim_ascii_end()
 }
 
-/// Writes what is wrong with a byte that begins no word.
-fn write_byte<W: Write>(text: &[u8], span: Span, writer: &mut W) -> io::Result<()> {
-    let meant = Meant(hint(text, 1, span));
-    match span_bytes(text, span) {
-        [b'#'] => {
-            let hint = of_hash(before(text, span));
-            writeln!(writer, "unexpected `#`: {hint}")
-        }
-        [b'!'] => writeln!(
-            writer,
-            "unexpected `!`: unequal is written !=, and not [ ] negates a condition"
-        ),
-        [byte] if !matches!(*byte, b' '..=b'~') => {
-            let byte = *byte;
-            writeln!(writer, "unexpected byte 0x{byte:02x}{meant}")
-        }
-        word => {
-            let shown = Word(word);
-            writeln!(writer, "unexpected character `{shown}`{meant}")
-        }
+/// What comes after a number of fields: ` field` or ` fields`.
+pub fn fields(count: u64) -> Part<'static> {
+    Text(if count == 1 { " field" } else { " fields" })
+}
+
+/// The columns of a relation with that many fields, in two parts: `#0`, `#0 and #1`, `#0 to #2`.
+fn columns(count: u64) -> (Part<'static>, Part<'static>) {
+    match count {
+        0 => (Text("none"), Text("")),
+        1 => (Text("#0"), Text("")),
+        2 => (Text("#0 and #1"), Text("")),
+        _ => (Text("#0 to #"), Number(count.saturating_sub(1))),
     }
 }
 
-/// Writes what is wrong with a number.
-fn write_number<W: Write>(text: &[u8], span: Span, writer: &mut W) -> io::Result<()> {
+/// Writes what is wrong with a byte that begins no word.
+fn write_byte<W: Write>(text: &[u8], span: Span, writer: &mut W) -> io::Result<()> {
     let word = span_bytes(text, span);
-    let shown = Word(word);
+    let meant = hint(text, 1, span);
     match word {
-        [b'0', ..] | [b'#', b'0', ..] => writeln!(writer, "{shown}: a number doesn't begin with 0"),
-        b"9223372036854775808" if before(text, span).ends_with(b"-") => writeln!(
+        [b'#'] => {
+            let hint = of_hash(before(text, span));
+            write_line(&[Text("unexpected `#`: "), Text(hint)], writer)
+        }
+        [b'!'] => {
+            let line = "unexpected `!`: unequal is written !=, and not [ ] negates a condition";
+            write_line(&[Text(line)], writer)
+        }
+        [byte] if !is_printable(*byte) => {
+            write_line(
+                &[Text("unexpected byte "), Byte(*byte), Meant(meant)],
+                writer,
+            )
+        }
+        _ => write_line(
+            &[
+                Text("unexpected character `"),
+                Word(word),
+                Text("`"),
+                Meant(meant),
+            ],
             writer,
-            "{shown}: a number is at most 9223372036854775807; the least is written -9223372036854775807 - 1"
         ),
-        _ => writeln!(writer, "{shown}: a number is at most 9223372036854775807"),
+    }
+}
+
+/// What is wrong with a number.
+fn of_number(text: &[u8], span: Span) -> &'static str {
+    let word = span_bytes(text, span);
+    if begins_with(&["0", "#0"], word) {
+        "a number doesn't begin with 0"
+    } else if is_among(&["9223372036854775808"], word) && before(text, span).ends_with(b"-") {
+        "a number is at most 9223372036854775807; the least is written -9223372036854775807 - 1"
+    } else {
+        "a number is at most 9223372036854775807"
     }
 }
 
@@ -93,22 +112,22 @@ fn write_unexpected<W: Write>(
     writer: &mut W,
 ) -> io::Result<()> {
     let word = span_bytes(text, span);
-    let shown = Word(word);
-    match word {
-        [] => write!(writer, "the text ends too early")?,
-        _ => write!(writer, "unexpected `{shown}`")?,
+    if word.is_empty() {
+        write_parts(&[Text("the text ends too early")], writer)?;
+    } else {
+        write_parts(&[Text("unexpected `"), Word(word), Text("`")], writer)?;
     }
     let before = before(text, span);
-    match (hint(text, 4, span), word, form_name(before)) {
-        (Some(hint), _, _) => writeln!(writer, ": {hint}"),
-        (None, b"(", Some(name)) => {
-            write!(writer, ": ")?;
+    match (hint(text, 4, span), form_name(before)) {
+        (None, Some(name)) if is_among(&["("], word) => {
+            write_parts(&[Text(": ")], writer)?;
             write_no_form(name, writer)
         }
-        _ => {
+        (None, _) => {
             write_expected(alloc, before, writer)?;
-            writeln!(writer)
+            write_line(&[], writer)
         }
+        (meant, _) => write_line(&[Meant(meant)], writer),
     }
 }
 
@@ -121,48 +140,52 @@ fn write_reading<W: Write>(
     writer: &mut W,
 ) -> io::Result<()> {
     let word = span_bytes(text, span);
-    let length = Number(word.len() as u64);
-    let shown = Word(word);
     match code {
         1 => write_byte(text, span, writer),
-        2 => write_number(text, span, writer),
-        3 => writeln!(writer, "the name has {length} bytes: a name has at most 32"),
-        4 => write_unexpected(alloc, text, span, writer),
-        5 => writeln!(
+        2 => write_line(
+            &[Word(word), Text(": "), Text(of_number(text, span))],
             writer,
-            "`{shown}` is more than 64 deep: each operator, `and` or `or` of a row counts, so put parts of a long row in brackets"
         ),
+        3 => {
+            let length = Number(word.len() as u64);
+            let end = Text(" bytes: a name has at most 32");
+            write_line(&[Text("the name has "), length, end], writer)
+        }
+        4 => write_unexpected(alloc, text, span, writer),
+        5 => {
+            let end =
+                "` is more than 64 deep: each operator, `and` or `or` of a row counts, so put parts of a long row in brackets";
+            write_line(&[Text("`"), Word(word), Text(end)], writer)
+        }
         _ => write_summary(code, writer),
     }
 }
 
 /// Writes what is wrong with a program that isn't well typed, where no number of fields is involved.
-fn write_naming<W: Write>(
-    alloc: Global,
-    text: &[u8],
-    code: u8,
-    span: Span,
-    writer: &mut W,
-) -> io::Result<()> {
-    let word = span_bytes(text, span);
-    let shown = Word(word);
-    match code {
-        11 => write_unknown(alloc, text, word, span, writer),
-        12 => writeln!(writer, "the name {shown} is taken already"),
-        17 => writeln!(writer, "{shown} turns: a loop takes at most 65535"),
-        18 => writeln!(
-            writer,
-            "this loop is nested in 16 others: at most 15 are allowed"
+fn write_naming<W: Write>(code: u8, word: &[u8], writer: &mut W) -> io::Result<()> {
+    let (front, word, end) = match code {
+        12 => ("the name ", word, " is taken already"),
+        17 => ("", word, " turns: a loop takes at most 65535"),
+        18 => (
+            "this loop is nested in 16 others: at most 15 are allowed",
+            [].as_slice(),
+            "",
         ),
-        19 => writeln!(writer, "{shown} is the 17th input: a query has at most 16"),
-        20 if word == b"output".as_slice() => writeln!(
-            writer,
-            "an output without a name is called out, and so is an earlier one"
+        19 => ("", word, " is the 17th input: a query has at most 16"),
+        20 if is_among(&["output"], word) => (
+            "an output without a name is called out, and so is an earlier one",
+            [].as_slice(),
+            "",
         ),
-        20 => writeln!(writer, "an earlier output is called {shown}"),
-        23 => writeln!(writer, "this is the 17th output: a query has at most 16"),
-        _ => write_summary(code, writer),
-    }
+        20 => ("an earlier output is called ", word, ""),
+        23 => (
+            "this is the 17th output: a query has at most 16",
+            [].as_slice(),
+            "",
+        ),
+        _ => return write_summary(code, writer),
+    };
+    write_line(&[Text(front), Word(word), Text(end)], writer)
 }
 
 /// Writes what is wrong with a program that isn't well typed, with the numbers of fields.
@@ -174,28 +197,40 @@ fn write_arities<W: Write>(
 ) -> io::Result<()> {
     match (code, arities) {
         (13, Arities::One(count)) => {
-            let column = Word(word);
-            let fields = Fields(count);
-            let columns = Columns(count);
-            writeln!(
+            let (from, to) = columns(count);
+            let middle = Text(": the relation has ");
+            let comma = Text(", ");
+            write_line(
+                &[
+                    Text("column "),
+                    Word(word),
+                    middle,
+                    Number(count),
+                    fields(count),
+                    comma,
+                    from,
+                    to,
+                ],
                 writer,
-                "column {column}: the relation has {fields}, {columns}"
             )
         }
         (14, Arities::Two(left, right)) => {
-            let fields = Fields(left);
-            writeln!(
+            let (first, second) = (Text("the first relation has "), Text(", and the second "));
+            write_line(
+                &[first, Number(left), fields(left), second, Number(right)],
                 writer,
-                "the first relation has {fields}, and the second {right}"
             )
         }
         (15, Arities::Two(start, body)) => {
-            let fields = Fields(start);
-            writeln!(writer, "the start has {fields}, and the body {body}")
+            let (first, second) = (Text("the start has "), Text(", and the body "));
+            write_line(
+                &[first, Number(start), fields(start), second, Number(body)],
+                writer,
+            )
         }
         (16, Arities::One(count)) => {
-            let fields = Fields(count);
-            writeln!(writer, "{fields}: a record has 1 to 16")
+            let end = Text(": a record has 1 to 16");
+            write_line(&[Number(count), fields(count), end], writer)
         }
         _ => write_summary(code, writer),
     }
@@ -212,10 +247,11 @@ pub fn write_query_fault<W: Write>(
     let word = span_bytes(text, span);
     match code {
         1..=6 => write_reading(alloc, text, code, span, writer),
+        11 => write_unknown(alloc, text, word, span, writer),
         13..=16 => match arities(alloc, text) {
             Some(arities) => write_arities(code, word, arities, writer),
             None => write_summary(code, writer),
         },
-        _ => write_naming(alloc, text, code, span, writer),
+        _ => write_naming(code, word, writer),
     }
 }

@@ -1,7 +1,7 @@
 //! Why a text can't be read.
 
-use crate::display::Plain;
-use crate::excerpt::write_name;
+use crate::display::Part::{Path, Text};
+use crate::display::write_line;
 use crate::explain::TextNames;
 use crate::fault::Fault;
 use crate::read_texts::Texts;
@@ -17,11 +17,8 @@ pub fn write_told<W: Write>(
 ) -> io::Result<()> {
     match (fault, texts.reason) {
         (Fault::ReadInput, Some(ErrorKind::UnexpectedEof)) => {
-            let path = Plain(names.input);
-            writeln!(
-                writer,
-                "cannot read {path} to its end: the last line isn't 'end'"
-            )
+            let end = Text(" to its end: the last line isn't 'end'");
+            write_line(&[Text("cannot read "), Path(names.input), end], writer)
         }
         _ => fault.write_line(names.query, names.input, writer),
     }
@@ -34,10 +31,7 @@ pub fn write_reason<W: Write>(
     writer: &mut W,
 ) -> io::Result<()> {
     match reason {
-        Some(kind) => {
-            write_name(name, writer)?;
-            writeln!(writer, "{}", sentence(kind))
-        }
+        Some(kind) => { write_line(&[Path(name), Text(": "), Text(sentence(kind))], writer) }
         None => Ok(()),
     }
 }
@@ -63,15 +57,14 @@ pub fn write_path_hint<W: Write>(
     names: TextNames<'_>,
     writer: &mut W,
 ) -> io::Result<()> {
-    match fault {
-        Fault::ReadQuery if names.query.as_bytes().contains(&b';') => writeln!(
-            writer,
+    let hint = match fault {
+        Fault::ReadQuery if names.query.as_bytes().contains(&b';') => {
             "QUERY is a path; with -e it is the query itself: ./loom run -e 'input a/1; output a;' INPUT"
-        ),
-        Fault::ReadInput if names.input.as_bytes().contains(&b'=') => writeln!(
-            writer,
+        }
+        Fault::ReadInput if names.input.as_bytes().contains(&b'=') => {
             "INPUT is a path; CSV files are read by a schema: ./loom run --schema SCHEMA QUERY NAME=FILE"
-        ),
-        _ => Ok(()),
-    }
+        }
+        _ => return Ok(()),
+    };
+    write_line(&[Text(hint)], writer)
 }

@@ -1,6 +1,7 @@
 //! Warnings: what is accepted in a query, and most likely a mistake.
 
-use crate::display::Word;
+use crate::display::Part::{Text, Word};
+use crate::display::{Part, write_line};
 use crate::excerpt::write_place;
 use crate::query_fault::span_bytes;
 use itoa::Buffer;
@@ -33,18 +34,30 @@ pub enum Doubt {
     Pair(Span, i64, i64),
 }
 
-/// Writes that nothing uses the names at those places.
-fn write_unused<W: Write>(
+/// Writes a line of these parts after `PATH:LINE:COLUMN: `.
+fn write_at<W: Write>(
     path: &str,
     text: &[u8],
-    what: &str,
+    place: Span,
+    parts: &[Part<'_>],
+    writer: &mut W,
+) -> io::Result<()> {
+    write_place(path, text, place.start as usize, writer)?;
+    write_line(parts, writer)
+}
+
+/// Writes that nothing uses the names at those places.
+fn write_unused<'a, W: Write>(
+    path: &str,
+    text: &'a [u8],
+    what: &'a str,
     places: &[Span],
     writer: &mut W,
 ) -> io::Result<()> {
     for place in places {
-        write_place(path, text, place.start as usize, writer)?;
         let name = Word(span_bytes(text, *place));
-        writeln!(writer, "warning: {what} {name} is not used")?;
+        let parts = [Text("warning: "), Text(what), name, Text(" is not used")];
+        write_at(path, text, *place, &parts, writer)?;
     }
     Ok(())
 }
@@ -61,12 +74,10 @@ pub fn write_early<W: Write>(
         let Some(place) = places.get(*number as usize) else {
             continue;
         };
-        write_place(path, text, place.start as usize, writer)?;
         let name = Word(span_bytes(text, *place));
-        writeln!(
-            writer,
-            "warning: the input {name} is fed in epoch 0 only, and each epoch is answered by itself"
-        )?;
+        let end = Text(" is fed in epoch 0 only, and each epoch is answered by itself");
+        let parts = [Text("warning: the input "), name, end];
+        write_at(path, text, *place, &parts, writer)?;
     }
     Ok(())
 }
@@ -74,22 +85,20 @@ pub fn write_early<W: Write>(
 /// Writes what comes out alike.
 fn write_doubt<W: Write>(path: &str, text: &[u8], doubt: Doubt, writer: &mut W) -> io::Result<()> {
     match doubt {
-        Doubt::Condition(place, true) => {
-            write_place(path, text, place.start as usize, writer)?;
-            writeln!(writer, "warning: the condition is always true")
-        }
-        Doubt::Condition(place, false) => {
-            write_place(path, text, place.start as usize, writer)?;
-            writeln!(writer, "warning: the condition is never true")
+        Doubt::Condition(place, is_true) => {
+            let how = if is_true { "always" } else { "never" };
+            let parts = [Text("warning: the condition is "), Text(how), Text(" true")];
+            write_at(path, text, place, &parts, writer)
         }
         Doubt::Pair(place, left, right) => {
             let (mut first, mut second) = (Buffer::new(), Buffer::new());
-            let (left, right) = (first.format(left), second.format(right));
-            write_place(path, text, place.start as usize, writer)?;
-            writeln!(
-                writer,
-                "warning: these columns never meet: the left one is always {left}, and the right one {right}"
-            )
+            let parts = [
+                Text("warning: these columns never meet: the left one is always "),
+                Text(first.format(left)),
+                Text(", and the right one "),
+                Text(second.format(right)),
+            ];
+            write_at(path, text, place, &parts, writer)
         }
     }
 }
@@ -102,9 +111,15 @@ pub fn write_warnings<W: Write>(
     writer: &mut W,
 ) -> io::Result<()> {
     let unused = &warnings.unused;
-    write_unused(path, text, "the input", &unused.inputs, writer)?;
-    write_unused(path, text, "the let", &unused.lets, writer)?;
-    write_unused(path, text, "the loop's variable", &unused.variables, writer)?;
+    write_unused(path, text, "the input ", &unused.inputs, writer)?;
+    write_unused(path, text, "the let ", &unused.lets, writer)?;
+    write_unused(
+        path,
+        text,
+        "the loop's variable ",
+        &unused.variables,
+        writer,
+    )?;
     for doubt in warnings.doubts.iter() {
         write_doubt(path, text, *doubt, writer)?;
     }
