@@ -17,7 +17,7 @@ use Rattle.board.specs.Seals.{HavePassed}
 use Rattle.board.specs.Shown.{InputShown, Shown, input_at, no_input, side_at}
 use Rattle.board.specs.Steps.{after_abandon, after_close, after_seal, more_at}
 use Rattle.board.proofs.BoardCalls.{commit_goes}
-use Rattle.board.proofs.Counts.{have_passed, most_same}
+use Rattle.board.proofs.Counts.{have_passed}
 use Rattle.board.proofs.Ended.{close_goes, seal_goes}
 use Rattle.board.proofs.Feeding.{feeds_goes}
 use Rattle.board.proofs.HandedOut.{hands_message, hands_message_kept, hands_request, hands_request_kept}
@@ -86,7 +86,6 @@ module _ (graph : Graph) (viewers : ℕ) (content : Pointstamp → ℕ) (waiting
         closes = (let l = keeps.closes in omega (arith, l, r));
         prompt = keeps.prompt;
         passed_are = keeps.passed_are;
-        passed_most = keeps.passed_most;
         passed_seen = keeps.passed_seen;
       } in
       subst A (sym e) (subst B (sym content_is) (subst C (sym g) (subst D (sym v) (subst E (sym waiting_is) more))))
@@ -99,7 +98,6 @@ module _ (graph : Graph) (viewers : ℕ) (content : Pointstamp → ℕ) (waiting
     closes = (let l = keeps.closes in let e = ap open_count inputs in omega (arith, l, e));
     prompt = keeps.prompt;
     passed_are = have_passed graph content s keeps.kept step t goes (λ i. let e = ap (λ (xs : List InputShown). (slice_index_or xs i no_input).open_epoch) inputs in omega (arith, e)) passed keeps.passed_are;
-    passed_most = most_same graph (IsSeenBy content waiting viewers 0) s t inputs goes.graph passed keeps.passed_most;
     passed_seen = seen_moved graph graph viewers viewers content waiting s t passed refl refl goes.graph keeps.passed_seen;
   }
 

@@ -1,10 +1,9 @@
 -- What has passed stays passed, and the number of passed epochs after each call.
 use Rattle.std.proofs.Common.{◌≡◌, ◌⊎◌, inl, inr, ◌<◌, ◌≤◌, ℕ, List, length, refl, sym, ap, subst, arith, slice_index_or}
-use Rattle.semantics.specs.Graph.{Graph, input_count, output_number, output_numbers, vertex}
-use Rattle.semantics.specs.Could.{Pointstamp, CouldResultIn, NoneOf, at_vertex}
+use Rattle.semantics.specs.Graph.{Graph, input_count, output_number, vertex}
+use Rattle.semantics.specs.Could.{Pointstamp}
 use Rattle.semantics.specs.Dataflow.{IsDataflow}
 use Rattle.semantics.specs.Kinds.{Role, role}
-use Rattle.semantics.specs.Time.{at_epoch}
 use Rattle.graph.specs.Shown.{GraphValue, shown_graph}
 use Rattle.machine.specs.World.{World}
 use Rattle.machine.specs.Active.{IsActive}
@@ -16,9 +15,9 @@ use Rattle.machine.proofs.PassedOutputs.{passed_below}
 use Rattle.machine.proofs.Tracking.{active_counts}
 use Rattle.board.specs.Kept.{IsKept, Goes}
 use Rattle.board.specs.Promises.{CountsPassed, HasPassed, IsOutputPlace}
-use Rattle.board.specs.Seals.{HavePassed, IsMostSeals, IsMostSeen}
+use Rattle.board.specs.Seals.{HavePassed}
 use Rattle.board.specs.Showing.{Shows}
-use Rattle.board.specs.Shown.{InputShown, Shown, input_at, net, no_input}
+use Rattle.board.specs.Shown.{Shown, input_at, net}
 use Rattle.board.proofs.Facts.{run_on}
 use Rattle.board.proofs.Worlds.{same_active}
 
@@ -92,23 +91,6 @@ module _ (graph : Graph) (content : Pointstamp → ℕ) (s : Shown) (kept : IsKe
 -- no epoch has passed at the opening
 pub have_new : (s : Shown) → HavePassed s 0
 have_new s w is = (inl refl, λ v e r l. absurd (omega (arith, l)))
-
--- no input is sealed at the opening
-pub most_new : (graph : Graph) (these : Pointstamp → Type 0) (s : Shown) → ((i : ℕ) → input_at s i ≡ no_input) → IsMostSeen graph these s 0
-most_new graph these s unfed m most = (omega arith, λ l. absurd (none_sealed most.some l))
-  where
-    none_sealed : (m ≡ 0) ⊎ ((i : ℕ) × (i < length s.inputs) × ((input_at s i).open_epoch ≡ m)) → 0 < m → ⊥
-    none_sealed (inl e) l = omega (arith, e, l)
-    none_sealed (inr (i, k, e)) l = let z = ap (λ (x : InputShown). x.open_epoch) (unfed i) in omega (arith, e, z, l)
-
--- while no input is sealed, what is seen stays the same
-pub most_same : (graph : Graph) (these : Pointstamp → Type 0) (s t : Shown) → t.inputs ≡ s.inputs → t.graph ≡ s.graph → (n : ℕ) → IsMostSeen graph these s n → IsMostSeen graph these t n
-most_same graph these s t inputs same n most m seals =
-    let O : List InputShown → Type 0 = λ xs. (m ≡ 0) ⊎ ((i : ℕ) × (i < length xs) × ((slice_index_or xs i no_input).open_epoch ≡ m)) in
-    let M : List InputShown → Type 0 = λ xs. (i : ℕ) → i < length xs → (slice_index_or xs i no_input).open_epoch ≤ m in
-    let before : IsMostSeals s m = record { most = subst M inputs seals.most; some = subst O inputs seals.some } in
-    let N : GraphValue → Type 0 = λ g. (k : ℕ) → k < length (output_numbers (shown_graph g)) → NoneOf (CouldResultIn graph) these (at_vertex (output_number (shown_graph g) k) (at_epoch n)) in
-    ((most m before).0, λ l none. (most m before).1 l (subst N same none))
 
 -- the number is unique, and each epoch below it has passed
 module _ (graph : Graph) (content : Pointstamp → ℕ) (s : Shown) (kept : IsKept graph content s) where

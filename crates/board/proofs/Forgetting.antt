@@ -31,7 +31,7 @@ use Rattle.board.specs.Shown.{EmitsBehind, Epochs, Shown, Side, held_of, net, no
 use Rattle.board.specs.Steps.{with_side}
 use Rattle.board.proofs.BoardCalls.{same_names}
 use Rattle.board.proofs.Committed.{sides_put}
-use Rattle.board.proofs.Counts.{most_same, passed_there, sealed_there}
+use Rattle.board.proofs.Counts.{passed_there, sealed_there}
 use Rattle.board.proofs.Places.{index_set_here, same_set}
 use Rattle.board.proofs.Shards.{each_changed}
 use Rattle.board.proofs.Worlds as worlds
@@ -190,7 +190,6 @@ module _ (graph : Graph) (content : Pointstamp → ℕ) (s : Shown) (kept : IsKe
         closes = (let l = keeps.closes in let e = ap open_count less.inputs in omega (arith, l, e));
         prompt = keeps.prompt;
         passed_are = passed_less known keeps.passed_are;
-        passed_most = most_same graph (IsSeenBy content waiting viewers 0) s t less.inputs less.graph known keeps.passed_most;
         passed_seen = seen_moved graph graph viewers viewers content waiting s t known refl refl less.graph keeps.passed_seen;
       }
 

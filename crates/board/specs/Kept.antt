@@ -15,7 +15,7 @@ use Rattle.machine.specs.InTransit.{FedFits}
 use Rattle.semantics.specs.PortArity.{IsTyped}
 use Rattle.board.specs.Fitting.{FitsPlace, arity_in}
 use Rattle.board.specs.Showing.{Shows, AreSidesOf, EachShard}
-use Rattle.board.specs.Seals.{AreSeenBelow, HavePassed, IsMostSeen}
+use Rattle.board.specs.Seals.{AreSeenBelow, HavePassed}
 use Rattle.views.specs.Waiting.{IsSeenBy, Waiting}
 
 -- how many inputs are open
@@ -41,14 +41,13 @@ pub record IsKept (graph : Graph) (content : Pointstamp → ℕ) (s : Shown) : T
   pub tracked : (p : Pointstamp) → content p ≡ active_count (net s) world p
 
 -- The same, and: the views are for that many workers, with room for the closes of all inputs; `passed` epochs have passed, and the first worker sees
--- these as passed and no others.
+-- them as passed.
 pub record Keeps (graph : Graph) (viewers : ℕ) (content : Pointstamp → ℕ) (waiting : Waiting) (room : ℕ) (late : Bool) (passed : ℕ) (s : Shown) : Type 0 where
   pub kept : IsKept graph content s
   pub viewers_are : viewers ≡ length s.sides
   pub closes : open_count s.inputs ≤ room
   pub prompt : late ≡ false → (w k : ℕ) → w < viewers → k < suc viewers → waiting w k ≡ []
   pub passed_are : HavePassed s passed
-  pub passed_most : IsMostSeen graph (IsSeenBy content waiting viewers 0) s passed
   pub passed_seen : AreSeenBelow graph (IsSeenBy content waiting viewers 0) s passed
 
 -- From whatever world the board showed before, the step is allowed and leads to one that it shows after. What was emitted stays.

@@ -170,7 +170,6 @@ impl<V: Views> Board<V> {
                 let feeder = self.state.worker_count();
                 post_noted(&mut self.views, feeder, &self.added, &[]);
                 self.lag.post(0);
-                self.passed = passed_now(&self.views, &self.state, self.passed);
                 (Ok(()), None)
             }
             Err(cut) => (Err(StepRefusal::NoMemory), Some(cut)),
@@ -218,7 +217,6 @@ impl<V: Views> Board<V> {
                 post(&mut self.views, feeder, &[opens], &[ends]);
                 self.lag.post(0);
                 self.state.seal(input as usize);
-                self.passed = passed_now(&self.views, &self.state, self.passed);
                 Ok(())
             }
             Err(_) => Err(StepRefusal::NoMemory),
@@ -244,7 +242,6 @@ impl<V: Views> Board<V> {
         post(&mut self.views, feeder, &[], &[ends]);
         self.lag.post(0);
         self.state.close(input as usize);
-        self.passed = passed_now(&self.views, &self.state, self.passed);
         Ok(())
     }
 
@@ -276,7 +273,6 @@ impl<V: Views> Board<V> {
                 law_of_step();
                 post(&mut self.views, worker, &[], &[ends]);
                 self.lag.post(0);
-                self.passed = passed_now(&self.views, &self.state, self.passed);
                 true
             }
             None => false,
@@ -402,6 +398,7 @@ impl<V: Views> Board<V> {
         ensures shown { self.new.shown ≡ self.old.shown }
         ensures applies { Applies worker self.old self.new }
         ensures prompt { IsUpToDate self.new worker }
+        ensures known { self.new.passed ≡ self.old.passed }
     {
         let workers = self.state.worker_count();
         if worker >= workers {
@@ -412,7 +409,6 @@ impl<V: Views> Board<V> {
         }
         catch_up(&mut self.views, worker, workers);
         self.lag.catch_up(worker);
-        self.passed = passed_now(&self.views, &self.state, self.passed);
     }
 
     /// The same only if many batches wait for the worker, so that no view lags without bound.
@@ -445,7 +441,6 @@ impl<V: Views> Board<V> {
         if !self.views.apply(worker, sender) {
             return false;
         }
-        self.passed = passed_now(&self.views, &self.state, self.passed);
         true
     }
 
@@ -557,15 +552,25 @@ impl<V: Views> Board<V> {
         is_past(&self.views, &self.state, output, epoch)
     }
 
-    /// The number of epochs, from 0 on, that had passed at every output when the first worker last looked. Never more than the most seals of any
-    /// input. Takes constant time.
-    pub fn passed_count(&self) -> u64
-        ensures value { result ≡ self.now.passed }
-        ensures first { IsFirstUncalled self.now result }
-        ensures most { (n : ℕ) → CountsPassed self.now.shown n → result ≤ n }
-        ensures seen { IsUpToDate self.now 0 → CountsPassed self.now.shown result }
+    /// The number of epochs, from 0 on, that have passed at every output as the first worker sees it. Never more than the most seals of any input. Asks
+    /// once for each epoch that has passed since the last call, and keeps the number.
+    pub fn passed_count(&mut self) -> u64
+        ensures shown { self.new.shown ≡ self.old.shown }
+        ensures kept { self.new ≡ record self.old { passed = result } }
+        ensures rises { self.old.passed ≤ result }
+        ensures first { IsFirstUncalled self.old result }
+        ensures most { (n : ℕ) → CountsPassed self.old.shown n → result ≤ n }
+        ensures seen { IsUpToDate self.old 0 → CountsPassed self.old.shown result }
     {
         law_of_waiting();
+        self.passed = passed_now(&self.views, &self.state, self.passed);
+        self.passed as u64
+    }
+
+    /// The number that `passed_count` gave last; 0 before the first call.
+    pub fn known_passed(&self) -> u64
+        ensures { result ≡ self.now.passed }
+    {
         self.passed as u64
     }
 
@@ -629,7 +634,6 @@ impl<V: Views> Board<V> {
                 law_of_step();
                 post_noted(&mut self.views, worker, &self.added, &[place]);
                 self.lag.post(sent.rows());
-                self.passed = passed_now(&self.views, &self.state, self.passed);
                 Ok(sent)
             }
             Err(done) => Err(CommitRefusal::NoMemory(done)),

@@ -126,7 +126,9 @@ fn emitted_count<V: Views>(board: &Board<V>, epoch: u32) -> usize {
 }
 
 /// Records at the output of two epochs, the number of passed epochs, and whether each of two workers holds an event.
-fn shown<V: Views>(board: &Board<V>) -> (usize, usize, u64, bool, bool) {
+fn shown<V: Views>(board: &mut Board<V>) -> (usize, usize, u64, bool, bool)
+    ensures { board.new.shown ≡ board.old.shown }
+{
     (
         emitted_count(board, 0),
         emitted_count(board, 1),

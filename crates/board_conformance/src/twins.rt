@@ -83,7 +83,7 @@ fn step(alloc: Global, twins: &mut Twins, dice: &mut Dice) -> bool {
 }
 
 /// Notes what is seen. No where the late view lets an epoch through that hasn't passed.
-fn look(twins: &Twins, seen: &mut Seen) -> bool {
+fn look(twins: &mut Twins, seen: &mut Seen) -> bool {
     if twins.late.waiting_changes() > 0 {
         seen.waiting = true;
     }

@@ -144,7 +144,6 @@ fn question<V: Views>(
 ) -> Result<String, WorkFault> {
     match (verb, call.parse::<u32>(), two_numbers(call)) {
         ("workers", _, _) => number(alloc, board.workers() as usize),
-        ("passed-count", _, _) => number(alloc, board.passed_count() as usize),
         ("waiting-changes", _, _) => number(alloc, board.waiting_changes() as usize),
         ("holding", Ok(worker), _) => yes_or_no(alloc, board.holding(worker)),
         ("fed", _, Some((input, epoch))) => records_in(alloc, board.fed(input, epoch)),
@@ -187,6 +186,7 @@ fn change<V: Views>(
             board.merge(worker, place as usize),
         ),
         ("apply", _, Some((worker, sender))) => yes_or_no(alloc, board.apply(worker, sender)),
+        ("passed-count", _, _) => number(alloc, board.passed_count() as usize),
         _ => question(alloc, board, verb, call),
     }
 }

@@ -5,14 +5,14 @@ ghost use Rattle.machine.specs.Step.{Step};
 ghost use Rattle.board.specs.Answers.{AnswersOnly, AnswersOr, Claims, Gathers, HasChoice, HasNoChoice, IfNothing};
 ghost use Rattle.board.specs.Answers.{feed_refusal, input_refusal, seal_refusal};
 ghost use Rattle.board.specs.Kept.{Goes};
-ghost use Rattle.board.specs.Lateness.{Applies, IsAsLate, IsUpToDate};
+ghost use Rattle.board.specs.Lateness.{Applies, IsUpToDate};
 ghost use Rattle.board.specs.Looks.{IsLookAt, ShowsEachOutput, ShowsPassed};
 ghost use Rattle.board.specs.Promises.{CountsPassed, HasPassedAtAll, IsDrained};
 ghost use Rattle.board.specs.Shown.{tables};
 ghost use Rattle.driver.specs.Ends.{Ends, IsFaultOf, event_of};
 ghost use Rattle.driver.specs.Received.{received_of};
 ghost use Rattle.driver.specs.Tallies.{IsTally};
-ghost use Rattle.workers.specs.Held.{Publishes};
+ghost use Rattle.workers.specs.Held.{IsNoLater, Publishes};
 ghost use Rattle.workers.specs.Names.{GivesNamed, IsNamed};
 
 use crate::counters::Counters;
@@ -181,8 +181,6 @@ impl<J: Naming, V: Views> Held<J, V> {
         ensures gathers { Gathers self.old.board.shown worker self.new.board.shown }
         ensures published { CountsPassed self.new.board.shown self.new.published }
     {
-        self.board.law_count();
-        let _known = self.board.passed_count();
         if !gather(&mut self.board, worker) {
             return;
         }
@@ -205,7 +203,7 @@ impl<J: Naming, V: Views> Held<J, V> {
         self.board.law_count();
         self.board.law_stays();
         let claimed = self.board.claim(worker);
-        self.publisher.publish(self.board.passed_count());
+        publish_seen(&mut self.board, &mut self.publisher);
         claimed
     }
 
@@ -214,7 +212,7 @@ impl<J: Naming, V: Views> Held<J, V> {
         requires { IsNamed J.names (event_of computed) }
         ensures ends { Ends self.old.board.shown self.new.board.shown (event_of computed) result }
         ensures fault { IsFaultOf computed result }
-        ensures views { OnErr result (IsAsLate self.old.board self.new.board) }
+        ensures views { OnErr result (IsNoLater self.old.board self.new.board) }
         ensures published { CountsPassed self.new.board.shown self.new.published }
     {
         self.board.law_stays();
@@ -226,7 +224,7 @@ impl<J: Naming, V: Views> Held<J, V> {
                 Ok(sent)
             }
             Err(fault) => {
-                self.publisher.publish(self.board.passed_count());
+                publish_seen(&mut self.board, &mut self.publisher);
                 Err(fault)
             }
         }
@@ -262,8 +260,7 @@ impl<J: Naming, V: Views> Held<J, V> {
         ensures counts { CountsPassed self.now.board.shown result }
         ensures published { result ≡ self.now.published }
     {
-        self.board.law_count();
-        self.board.passed_count()
+        self.publisher.number()
     }
 
     /// The number of received records that was published last.
@@ -348,6 +345,7 @@ impl<J: Naming, V: Views> Held<J, V> {
         ensures board { result.0 ≡ self.board }
         ensures graph { result.0.shown.graph ≡ J.graph }
         ensures passed { CountsPassed result.0.shown self.published }
+        ensures known { result.0.passed ≡ self.published }
         ensures prompt { IsUpToDate result.0 0 }
         ensures counts { IsTally J.first result.0.shown result.1 }
         ensures received { self.received ≤ received_of result.1 }
@@ -371,5 +369,16 @@ fn publish<V: Views>(board: &mut Board<V>, publisher: &mut Publisher)
     ensures publishes { Publishes publisher.old.number board.new publisher.new.number }
 {
     board.catch_up(0);
+    publish_seen(board, publisher);
+}
+
+/// Publishes the number of epochs that have passed as worker 0 sees it.
+fn publish_seen<V: Views>(board: &mut Board<V>, publisher: &mut Publisher)
+    ensures shown { board.new.shown ≡ board.old.shown }
+    ensures kept { board.new ≡ record board.old { passed = board.new.passed } }
+    ensures rises { board.old.passed ≤ board.new.passed }
+    ensures table { publisher.new.table ≡ publisher.old.table }
+    ensures publishes { IsUpToDate board.old 0 → Publishes publisher.old.number board.new publisher.new.number }
+{
     publisher.publish(board.passed_count());
 }

@@ -33,6 +33,7 @@ impl<V: Views> Model for Report<V> {
     ghost use Rattle.expr_tree.specs.contracts.scalar.Scalar as scalar;
     ghost use Rattle.expr_tree.specs.contracts.condition.Cond as condition;
     ghost use Rattle.board.specs.Lateness.{IsUpToDate};
+    ghost use Rattle.board.specs.Promises.{CountsPassed};
     ghost use Rattle.board.specs.Shown.{Shown};
 
     ghost Value = { Shown };
@@ -46,7 +47,7 @@ impl<V: Views> Model for Report<V> {
 
     ghost view = { λ r. r.board.shown };
 
-    ghost invariant = { λ r. IsUpToDate r.board 0 };
+    ghost invariant = { λ r. IsUpToDate r.board 0 × CountsPassed r.board.shown r.board.passed };
 }
 
 impl<V: Views> Report<V> {
@@ -68,7 +69,7 @@ impl<V: Views> Report<V> {
     pub fn passed(&self) -> u64
         ensures { CountsPassed self.now result }
     {
-        self.board.passed_count()
+        self.board.known_passed()
     }
 
     /// The graph that was run.
@@ -128,6 +129,7 @@ pub fn report_of<V: Views>(board: Board<V>) -> Report<V>
 {
     let mut board = board;
     board.catch_up(0);
+    let _passed = board.passed_count();
     Report { board }
 }
 

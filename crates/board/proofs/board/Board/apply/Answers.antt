@@ -20,20 +20,6 @@ apply-requires-clause-worker g c = let l = c.if-worker-workers.false in let e = 
 pub apply-requires-clause-sender : goal.apply-requires-clause-sender
 apply-requires-clause-sender g c = let l = c.if-sender-workers.false in let e = c.worker_count-workers.ensures in let v = c.self.invariant.viewers_are in omega (arith, l, e, v)
 
-pub passed_now-self-inside-requires-clause-kept : goal.passed_now-self-inside-requires-clause-kept
-passed_now-self-inside-requires-clause-kept g c = kept_same (g.V.Views.graph c.self.inside.views) (g.V.Views.graph c.apply.new.self) (g.V.Views.content c.self.inside.views) (g.V.Views.content c.apply.new.self) c.self.inside.state c.self.invariant.kept c.apply.ensures.graph c.apply.ensures.content
-
-pub passed_now-self-inside-requires-clause-viewers : goal.passed_now-self-inside-requires-clause-viewers
-passed_now-self-inside-requires-clause-viewers g c = c.apply.ensures.workers ∙ c.self.invariant.viewers_are
-
-pub passed_now-self-inside-requires-clause-seen : goal.passed_now-self-inside-requires-clause-seen
-passed_now-self-inside-requires-clause-seen g c =
-    let s : Shown = c.self.inside.state in
-    let same = c.apply.ensures.graph in
-    let workers = c.apply.ensures.workers in
-    seen_moved (g.V.Views.graph c.self.inside.views) (g.V.Views.graph c.apply.new.self) (g.V.Views.workers c.self.inside.views) (g.V.Views.workers c.apply.new.self) (g.V.Views.content c.apply.new.self) (g.V.Views.waiting c.apply.new.self) s s c.self.inside.passed same workers refl
-    (seen_applied (g.V.Views.graph c.self.inside.views) (g.V.Views.workers c.self.inside.views) c.args.worker (g.V.Views.content c.self.inside.views) (g.V.Views.content c.apply.new.self) (g.V.Views.waiting c.self.inside.views) (g.V.Views.waiting c.apply.new.self) c.apply.ensures.content (λ w k ne. c.apply.ensures.others w k (λ a b. ne a)) c.apply.ensures.stays s c.self.inside.passed c.self.invariant.passed_seen)
-
 pub invariant_of-self-2 : goal.invariant_of-self-2
 invariant_of-self-2 g c =
     let s : Shown = c.self.inside.state in
@@ -45,9 +31,11 @@ invariant_of-self-2 g c =
       viewers_are = c.apply.ensures.workers ∙ v;
       closes = (let r = c.self.invariant.closes in let p = c.apply.ensures.room in omega (arith, r, p));
       prompt = λ late w k l m. absurd (applied_some c.args.worker c.args.sender (g.V.Views.waiting c.self.inside.views) (g.V.Views.waiting c.apply.new.self) one (c.self.invariant.prompt late c.args.worker c.args.sender (let x = c.if-worker-workers.false in omega (arith, x, e, v)) (let y = c.if-sender-workers.false in omega (arith, y, e, v))));
-      passed_are = c.passed_now-self-inside.ensures.passed;
-      passed_most = c.passed_now-self-inside.ensures.most;
-      passed_seen = c.passed_now-self-inside.ensures.seen;
+      passed_are = c.self.invariant.passed_are;
+      passed_seen = (let same = c.apply.ensures.graph in
+          let workers = c.apply.ensures.workers in
+          seen_moved (g.V.Views.graph c.self.inside.views) (g.V.Views.graph c.apply.new.self) (g.V.Views.workers c.self.inside.views) (g.V.Views.workers c.apply.new.self) (g.V.Views.content c.apply.new.self) (g.V.Views.waiting c.apply.new.self) s s c.self.inside.passed same workers refl
+          (seen_applied (g.V.Views.graph c.self.inside.views) (g.V.Views.workers c.self.inside.views) c.args.worker (g.V.Views.content c.self.inside.views) (g.V.Views.content c.apply.new.self) (g.V.Views.waiting c.self.inside.views) (g.V.Views.waiting c.apply.new.self) c.apply.ensures.content (λ w k ne. c.apply.ensures.others w k (λ a b. ne a)) c.apply.ensures.stays s c.self.inside.passed c.self.invariant.passed_seen));
     }
 
 pub returns-then-worker-workers-clause-applied : goal.returns-then-worker-workers-clause-applied
@@ -87,16 +75,16 @@ returns-clause-applied g c =
     let one : IsApplied c.args.worker c.args.sender (g.V.Views.waiting c.self.inside.views) (g.V.Views.waiting c.apply.new.self) true = subst (IsApplied c.args.worker c.args.sender (g.V.Views.waiting c.self.inside.views) (g.V.Views.waiting c.apply.new.self)) c.if-not-apply.false c.apply.ensures.applied in
     let lw : c.args.worker < (g.V.Views.workers c.self.inside.views) = (let x = c.if-worker-workers.false in omega (arith, x, e, v)) in
     let lk : c.args.sender < suc (g.V.Views.workers c.self.inside.views) = (let y = c.if-sender-workers.false in omega (arith, y, e, v)) in
-    let A : ℕ → Type 0 = λ m. waits_for (board_of s (g.V.Views.workers c.self.inside.views) (g.V.Views.waiting c.self.inside.views) (g.V.Views.behind c.self.inside.views 0) c.self.inside.passed) c.args.worker c.args.sender ≡ suc (waits_for (board_of s m (g.V.Views.waiting c.apply.new.self) (g.V.Views.behind c.apply.new.self 0) c.passed_now-self-inside.result) c.args.worker c.args.sender) in
-    let B : BoardShown → Type 0 = λ z. waits_for z c.args.worker c.args.sender ≡ suc (waits_for (board_of s (g.V.Views.workers c.apply.new.self) (g.V.Views.waiting c.apply.new.self) (g.V.Views.behind c.apply.new.self 0) c.passed_now-self-inside.result) c.args.worker c.args.sender) in
-    subst B c.self.view_is (subst A (sym c.apply.ensures.workers) (applied_one s (g.V.Views.workers c.self.inside.views) (g.V.Views.waiting c.self.inside.views) (g.V.Views.waiting c.apply.new.self) c.self.inside.passed c.passed_now-self-inside.result c.args.worker c.args.sender lw lk one))
+    let A : ℕ → Type 0 = λ m. waits_for (board_of s (g.V.Views.workers c.self.inside.views) (g.V.Views.waiting c.self.inside.views) (g.V.Views.behind c.self.inside.views 0) c.self.inside.passed) c.args.worker c.args.sender ≡ suc (waits_for (board_of s m (g.V.Views.waiting c.apply.new.self) (g.V.Views.behind c.apply.new.self 0) c.self.inside.passed) c.args.worker c.args.sender) in
+    let B : BoardShown → Type 0 = λ z. waits_for z c.args.worker c.args.sender ≡ suc (waits_for (board_of s (g.V.Views.workers c.apply.new.self) (g.V.Views.waiting c.apply.new.self) (g.V.Views.behind c.apply.new.self 0) c.self.inside.passed) c.args.worker c.args.sender) in
+    subst B c.self.view_is (subst A (sym c.apply.ensures.workers) (applied_one s (g.V.Views.workers c.self.inside.views) (g.V.Views.waiting c.self.inside.views) (g.V.Views.waiting c.apply.new.self) c.self.inside.passed c.self.inside.passed c.args.worker c.args.sender lw lk one))
 
 pub returns-clause-others : goal.returns-clause-others
 returns-clause-others g c w k ne =
     let s : Shown = c.self.inside.state in
-    let A : ℕ → Type 0 = λ m. waits_for (board_of s m (g.V.Views.waiting c.apply.new.self) (g.V.Views.behind c.apply.new.self 0) c.passed_now-self-inside.result) w k ≡ waits_for (board_of s (g.V.Views.workers c.self.inside.views) (g.V.Views.waiting c.self.inside.views) (g.V.Views.behind c.self.inside.views 0) c.self.inside.passed) w k in
-    let B : BoardShown → Type 0 = λ z. waits_for (board_of s (g.V.Views.workers c.apply.new.self) (g.V.Views.waiting c.apply.new.self) (g.V.Views.behind c.apply.new.self 0) c.passed_now-self-inside.result) w k ≡ waits_for z w k in
-    subst B c.self.view_is (subst A (sym c.apply.ensures.workers) (waits_same s (g.V.Views.workers c.self.inside.views) (g.V.Views.waiting c.self.inside.views) c.self.inside.passed s (g.V.Views.waiting c.apply.new.self) c.passed_now-self-inside.result w k (λ lw lk. c.apply.ensures.others w k ne)))
+    let A : ℕ → Type 0 = λ m. waits_for (board_of s m (g.V.Views.waiting c.apply.new.self) (g.V.Views.behind c.apply.new.self 0) c.self.inside.passed) w k ≡ waits_for (board_of s (g.V.Views.workers c.self.inside.views) (g.V.Views.waiting c.self.inside.views) (g.V.Views.behind c.self.inside.views 0) c.self.inside.passed) w k in
+    let B : BoardShown → Type 0 = λ z. waits_for (board_of s (g.V.Views.workers c.apply.new.self) (g.V.Views.waiting c.apply.new.self) (g.V.Views.behind c.apply.new.self 0) c.self.inside.passed) w k ≡ waits_for z w k in
+    subst B c.self.view_is (subst A (sym c.apply.ensures.workers) (waits_same s (g.V.Views.workers c.self.inside.views) (g.V.Views.waiting c.self.inside.views) c.self.inside.passed s (g.V.Views.waiting c.apply.new.self) c.self.inside.passed w k (λ lw lk. c.apply.ensures.others w k ne)))
 
 pub returns-then-not-apply-clause-called : goal.returns-then-not-apply-clause-called
 returns-then-not-apply-clause-called g c =
@@ -112,10 +100,10 @@ returns-then-not-apply-clause-called g c =
 pub returns-clause-called : goal.returns-clause-called
 returns-clause-called g c =
     let s : Shown = c.self.inside.state in
-    let one = keeps_called (g.V.Views.graph c.self.inside.views) (g.V.Views.graph c.apply.new.self) (g.V.Views.workers c.self.inside.views) (g.V.Views.content c.self.inside.views) (g.V.Views.content c.apply.new.self) (g.V.Views.waiting c.self.inside.views) (g.V.Views.waiting c.apply.new.self) (g.V.Views.behind c.self.inside.views 0) (g.V.Views.behind c.apply.new.self 0) s s c.self.inside.passed c.passed_now-self-inside.result (g.met.V.Views.as_lists c.self.inside.views 0) (g.met.V.Views.as_lists c.apply.new.self 0) c.self.invariant.kept
+    let one = keeps_called (g.V.Views.graph c.self.inside.views) (g.V.Views.graph c.apply.new.self) (g.V.Views.workers c.self.inside.views) (g.V.Views.content c.self.inside.views) (g.V.Views.content c.apply.new.self) (g.V.Views.waiting c.self.inside.views) (g.V.Views.waiting c.apply.new.self) (g.V.Views.behind c.self.inside.views 0) (g.V.Views.behind c.apply.new.self 0) s s c.self.inside.passed c.self.inside.passed (g.met.V.Views.as_lists c.self.inside.views 0) (g.met.V.Views.as_lists c.apply.new.self 0) c.self.invariant.kept
     (kept_same (g.V.Views.graph c.self.inside.views) (g.V.Views.graph c.apply.new.self) (g.V.Views.content c.self.inside.views) (g.V.Views.content c.apply.new.self) s c.self.invariant.kept c.apply.ensures.graph c.apply.ensures.content)
     c.self.invariant.viewers_are c.self.invariant.viewers_are c.apply.ensures.graph
     (none_applied (g.V.Views.graph c.self.inside.views) (g.V.Views.workers c.self.inside.views) c.args.worker (g.V.Views.content c.self.inside.views) (g.V.Views.content c.apply.new.self) (g.V.Views.waiting c.self.inside.views) (g.V.Views.waiting c.apply.new.self) c.apply.ensures.content (λ w k ne. c.apply.ensures.others w k (λ a b. ne a)) c.apply.ensures.stays) in
-    let A : ℕ → Type 0 = λ m. KeepsCalled (board_of s (g.V.Views.workers c.self.inside.views) (g.V.Views.waiting c.self.inside.views) (g.V.Views.behind c.self.inside.views 0) c.self.inside.passed) (board_of s m (g.V.Views.waiting c.apply.new.self) (g.V.Views.behind c.apply.new.self 0) c.passed_now-self-inside.result) in
-    let B : BoardShown → Type 0 = λ z. KeepsCalled z (board_of s (g.V.Views.workers c.apply.new.self) (g.V.Views.waiting c.apply.new.self) (g.V.Views.behind c.apply.new.self 0) c.passed_now-self-inside.result) in
+    let A : ℕ → Type 0 = λ m. KeepsCalled (board_of s (g.V.Views.workers c.self.inside.views) (g.V.Views.waiting c.self.inside.views) (g.V.Views.behind c.self.inside.views 0) c.self.inside.passed) (board_of s m (g.V.Views.waiting c.apply.new.self) (g.V.Views.behind c.apply.new.self 0) c.self.inside.passed) in
+    let B : BoardShown → Type 0 = λ z. KeepsCalled z (board_of s (g.V.Views.workers c.apply.new.self) (g.V.Views.waiting c.apply.new.self) (g.V.Views.behind c.apply.new.self 0) c.self.inside.passed) in
     subst B c.self.view_is (subst A (sym c.apply.ensures.workers) one)

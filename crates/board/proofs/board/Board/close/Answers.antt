@@ -36,40 +36,6 @@ post-requires-clause-may g c =
     let ends : c.input_place-ends.result ≡ at_vertex i (at_epoch (input_at s i).open_epoch) = c.input_place-ends.ensures ∙ ap (λ m. at_vertex i (at_epoch m)) c.open_epoch-epoch.ensures in
     may_close c.law_of_step.ensures.may (g.V.Views.graph c.self.inside.views) (g.V.Views.graph c.self.inside.views) (g.V.Views.workers c.self.inside.views) (g.V.Views.content c.self.inside.views) (g.V.Views.content c.self.inside.views) s c.self.invariant.kept n refl (λ q. refl) i takes c.worker_count-feeder.result c.worker_count-feeder.ensures c.input_place-ends.result ends
 
-pub passed_now-self-inside-requires-clause-kept : goal.passed_now-self-inside-requires-clause-kept
-passed_now-self-inside-requires-clause-kept g c =
-    let s : Shown = c.self.inside.state in
-    let i : ℕ = c.args.input in
-    let takes = open_tells s i (sym c.input_refusal.ensures ∙ c.in_default.is) in
-    let n = c.self.invariant.viewers_are in
-    let ends : c.input_place-ends.result ≡ at_vertex i (at_epoch (input_at s i).open_epoch) = c.input_place-ends.ensures ∙ ap (λ m. at_vertex i (at_epoch m)) c.open_epoch-epoch.ensures in
-    let kept : IsKept (g.V.Views.graph c.post.new.views) (g.V.Views.content c.post.new.views) c.close.new.self = (let P : Shown → Type 0 = λ z. IsKept (g.V.Views.graph c.post.new.views) (g.V.Views.content c.post.new.views) z in
-    subst P (sym c.close.ensures) (close_posted (g.V.Views.graph c.self.inside.views) (g.V.Views.graph c.post.new.views) (g.V.Views.content c.self.inside.views) (g.V.Views.content c.post.new.views) s c.self.invariant.kept i takes c.post.ensures.graph c.input_place-ends.result ends c.post.ensures.content)) in
-    kept
-
-pub passed_now-self-inside-requires-clause-seen : goal.passed_now-self-inside-requires-clause-seen
-passed_now-self-inside-requires-clause-seen g c =
-    let s : Shown = c.self.inside.state in
-    let n = c.self.invariant.viewers_are in
-    seen_posted (g.V.Views.graph c.self.inside.views) (g.V.Views.graph c.self.inside.views) (g.V.Views.workers c.self.inside.views) (g.V.Views.workers c.self.inside.views) (g.V.Views.content c.self.inside.views) (g.V.Views.content c.self.inside.views) (g.V.Views.content c.post.new.views) (g.V.Views.waiting c.self.inside.views) (g.V.Views.waiting c.self.inside.views) (g.V.Views.waiting c.post.new.views) s c.self.invariant.kept n refl refl (λ q. refl) (λ w k. refl) c.post.ensures.stays
-    (g.V.Views.graph c.post.new.views) (g.V.Views.workers c.post.new.views) c.close.new.self c.self.inside.passed c.post.ensures.graph c.post.ensures.workers (ap (λ (z : Shown). z.graph) c.close.ensures) c.self.invariant.passed_seen
-
-pub passed_now-self-inside-requires-clause-viewers : goal.passed_now-self-inside-requires-clause-viewers
-passed_now-self-inside-requires-clause-viewers g c =
-    let s : Shown = c.self.inside.state in
-    let i : ℕ = c.args.input in
-    let takes = open_tells s i (sym c.input_refusal.ensures ∙ c.in_default.is) in
-    let n = c.self.invariant.viewers_are in
-    c.post.ensures.workers ∙ n ∙ sym (ap (λ (z : Shown). length z.sides) c.close.ensures)
-
-pub passed_now-self-inside-requires-clause-passed : goal.passed_now-self-inside-requires-clause-passed
-passed_now-self-inside-requires-clause-passed g c =
-    let s : Shown = c.self.inside.state in
-    let i : ℕ = c.args.input in
-    let takes = open_tells s i (sym c.input_refusal.ensures ∙ c.in_default.is) in
-    let n = c.self.invariant.viewers_are in
-    closed_passed (g.V.Views.graph c.self.inside.views) (g.V.Views.workers c.self.inside.views) (g.V.Views.content c.self.inside.views) (g.V.Views.waiting c.self.inside.views) (g.V.Views.room c.self.inside.views) g.V.Views.late c.self.inside.passed s c.self.invariant c.close.new.self i takes c.close.ensures
-
 pub invariant_of-self : goal.invariant_of-self
 invariant_of-self g c =
     let s : Shown = c.self.inside.state in
@@ -90,9 +56,9 @@ invariant_of-self g c =
           omega (arith, r, p, o, e)
           );
       prompt = λ late w k l m. posted_prompt g.V.Views.late (g.V.Views.waiting c.self.inside.views) (g.V.Views.waiting c.self.inside.views) (g.V.Views.waiting c.post.new.views) (batch c.worker_count-feeder.result [] (c.input_place-ends.result ∷ [])) (0 + length (c.input_place-ends.result ∷ [])) (g.V.Views.workers c.self.inside.views) (λ w k. refl) c.post.ensures.waiting c.self.invariant.prompt late w k (let e = c.post.ensures.workers in omega (arith, l, e)) (let e = c.post.ensures.workers in omega (arith, m, e));
-      passed_are = c.passed_now-self-inside.ensures.passed;
-      passed_most = c.passed_now-self-inside.ensures.most;
-      passed_seen = c.passed_now-self-inside.ensures.seen;
+      passed_are = (closed_passed (g.V.Views.graph c.self.inside.views) (g.V.Views.workers c.self.inside.views) (g.V.Views.content c.self.inside.views) (g.V.Views.waiting c.self.inside.views) (g.V.Views.room c.self.inside.views) g.V.Views.late c.self.inside.passed s c.self.invariant c.close.new.self i takes c.close.ensures);
+      passed_seen = (seen_posted (g.V.Views.graph c.self.inside.views) (g.V.Views.graph c.self.inside.views) (g.V.Views.workers c.self.inside.views) (g.V.Views.workers c.self.inside.views) (g.V.Views.content c.self.inside.views) (g.V.Views.content c.self.inside.views) (g.V.Views.content c.post.new.views) (g.V.Views.waiting c.self.inside.views) (g.V.Views.waiting c.self.inside.views) (g.V.Views.waiting c.post.new.views) s c.self.invariant.kept n refl refl (λ q. refl) (λ w k. refl) c.post.ensures.stays
+          (g.V.Views.graph c.post.new.views) (g.V.Views.workers c.post.new.views) c.close.new.self c.self.inside.passed c.post.ensures.graph c.post.ensures.workers (ap (λ (z : Shown). z.graph) c.close.ensures) c.self.invariant.passed_seen);
     }
 
 pub returns-clause-step : goal.returns-clause-step
@@ -115,13 +81,13 @@ returns-clause-posts g c =
     let kept : IsKept (g.V.Views.graph c.post.new.views) (g.V.Views.content c.post.new.views) c.close.new.self = (let P : Shown → Type 0 = λ z. IsKept (g.V.Views.graph c.post.new.views) (g.V.Views.content c.post.new.views) z in
     subst P (sym c.close.ensures) (close_posted (g.V.Views.graph c.self.inside.views) (g.V.Views.graph c.post.new.views) (g.V.Views.content c.self.inside.views) (g.V.Views.content c.post.new.views) s c.self.invariant.kept i takes c.post.ensures.graph c.input_place-ends.result ends c.post.ensures.content)) in
     let kept_then : IsKept (g.V.Views.graph c.post.new.views) (g.V.Views.content c.post.new.views) c.close.new.self = kept in
-    let called = keeps_called (g.V.Views.graph c.self.inside.views) (g.V.Views.graph c.post.new.views) (g.V.Views.workers c.self.inside.views) (g.V.Views.content c.self.inside.views) (g.V.Views.content c.post.new.views) (g.V.Views.waiting c.self.inside.views) (g.V.Views.waiting c.post.new.views) (g.V.Views.behind c.self.inside.views 0) (g.V.Views.behind c.post.new.views 0) s c.close.new.self c.self.inside.passed c.passed_now-self-inside.result (g.met.V.Views.as_lists c.self.inside.views 0) (g.met.V.Views.as_lists c.post.new.views 0) c.self.invariant.kept kept_then
+    let called = keeps_called (g.V.Views.graph c.self.inside.views) (g.V.Views.graph c.post.new.views) (g.V.Views.workers c.self.inside.views) (g.V.Views.content c.self.inside.views) (g.V.Views.content c.post.new.views) (g.V.Views.waiting c.self.inside.views) (g.V.Views.waiting c.post.new.views) (g.V.Views.behind c.self.inside.views 0) (g.V.Views.behind c.post.new.views 0) s c.close.new.self c.self.inside.passed c.self.inside.passed (g.met.V.Views.as_lists c.self.inside.views 0) (g.met.V.Views.as_lists c.post.new.views 0) c.self.invariant.kept kept_then
     n (n ∙ sym (ap (λ (z : Shown). length z.sides) c.close.ensures)) c.post.ensures.graph
     (none_posted (g.V.Views.graph c.self.inside.views) (g.V.Views.graph c.self.inside.views) (g.V.Views.workers c.self.inside.views) (g.V.Views.workers c.self.inside.views) (g.V.Views.content c.self.inside.views) (g.V.Views.content c.self.inside.views) (g.V.Views.content c.post.new.views) (g.V.Views.waiting c.self.inside.views) (g.V.Views.waiting c.self.inside.views) (g.V.Views.waiting c.post.new.views) s c.self.invariant.kept n refl refl (λ q. refl) (λ w k. refl) c.post.ensures.stays) in
     let after = posted_some g.V.Views.late (g.V.Views.waiting c.self.inside.views) (g.V.Views.waiting c.self.inside.views) (g.V.Views.waiting c.post.new.views) (batch c.worker_count-feeder.result [] (c.input_place-ends.result ∷ [])) (0 + length (c.input_place-ends.result ∷ [])) (g.V.Views.workers c.self.inside.views) (omega arith) (λ w k. refl) c.post.ensures.waiting in
-    let one : Posts g.V.Views.late c.worker_count-feeder.result (board_of s (g.V.Views.workers c.self.inside.views) (g.V.Views.waiting c.self.inside.views) (g.V.Views.behind c.self.inside.views 0) c.self.inside.passed) (board_of c.close.new.self (g.V.Views.workers c.self.inside.views) (g.V.Views.waiting c.post.new.views) (g.V.Views.behind c.post.new.views 0) c.passed_now-self-inside.result) =
-    posts s (g.V.Views.workers c.self.inside.views) (g.V.Views.waiting c.self.inside.views) c.self.inside.passed c.close.new.self (g.V.Views.waiting c.post.new.views) c.passed_now-self-inside.result g.V.Views.late c.worker_count-feeder.result [] (c.input_place-ends.result ∷ []) (g.V.Views.behind c.self.inside.views 0) (g.V.Views.behind c.post.new.views 0) (sym n) after called in
-    let A : ℕ → Type 0 = λ m. Posts g.V.Views.late m (board_of s (g.V.Views.workers c.self.inside.views) (g.V.Views.waiting c.self.inside.views) (g.V.Views.behind c.self.inside.views 0) c.self.inside.passed) (board_of c.close.new.self (g.V.Views.workers c.post.new.views) (g.V.Views.waiting c.post.new.views) (g.V.Views.behind c.post.new.views 0) c.passed_now-self-inside.result) in
-    let B : ℕ → Type 0 = λ m. Posts g.V.Views.late c.worker_count-feeder.result (board_of s (g.V.Views.workers c.self.inside.views) (g.V.Views.waiting c.self.inside.views) (g.V.Views.behind c.self.inside.views 0) c.self.inside.passed) (board_of c.close.new.self m (g.V.Views.waiting c.post.new.views) (g.V.Views.behind c.post.new.views 0) c.passed_now-self-inside.result) in
-    let D : BoardShown → Type 0 = λ z. Posts g.V.Views.late (length z.shown.sides) z (board_of c.close.new.self (g.V.Views.workers c.post.new.views) (g.V.Views.waiting c.post.new.views) (g.V.Views.behind c.post.new.views 0) c.passed_now-self-inside.result) in
+    let one : Posts g.V.Views.late c.worker_count-feeder.result (board_of s (g.V.Views.workers c.self.inside.views) (g.V.Views.waiting c.self.inside.views) (g.V.Views.behind c.self.inside.views 0) c.self.inside.passed) (board_of c.close.new.self (g.V.Views.workers c.self.inside.views) (g.V.Views.waiting c.post.new.views) (g.V.Views.behind c.post.new.views 0) c.self.inside.passed) =
+    posts s (g.V.Views.workers c.self.inside.views) (g.V.Views.waiting c.self.inside.views) c.self.inside.passed c.close.new.self (g.V.Views.waiting c.post.new.views) c.self.inside.passed g.V.Views.late c.worker_count-feeder.result [] (c.input_place-ends.result ∷ []) (g.V.Views.behind c.self.inside.views 0) (g.V.Views.behind c.post.new.views 0) (sym n) after called in
+    let A : ℕ → Type 0 = λ m. Posts g.V.Views.late m (board_of s (g.V.Views.workers c.self.inside.views) (g.V.Views.waiting c.self.inside.views) (g.V.Views.behind c.self.inside.views 0) c.self.inside.passed) (board_of c.close.new.self (g.V.Views.workers c.post.new.views) (g.V.Views.waiting c.post.new.views) (g.V.Views.behind c.post.new.views 0) c.self.inside.passed) in
+    let B : ℕ → Type 0 = λ m. Posts g.V.Views.late c.worker_count-feeder.result (board_of s (g.V.Views.workers c.self.inside.views) (g.V.Views.waiting c.self.inside.views) (g.V.Views.behind c.self.inside.views 0) c.self.inside.passed) (board_of c.close.new.self m (g.V.Views.waiting c.post.new.views) (g.V.Views.behind c.post.new.views 0) c.self.inside.passed) in
+    let D : BoardShown → Type 0 = λ z. Posts g.V.Views.late (length z.shown.sides) z (board_of c.close.new.self (g.V.Views.workers c.post.new.views) (g.V.Views.waiting c.post.new.views) (g.V.Views.behind c.post.new.views 0) c.self.inside.passed) in
     subst D c.self.view_is (subst A c.worker_count-feeder.ensures (subst B (sym c.post.ensures.workers) one))

@@ -49,46 +49,6 @@ post_noted-requires-clause-may g c =
 pub commit-requires-clause-own : goal.commit-requires-clause-own
 commit-requires-clause-own g c = subst (λ (b : BoardShown). IsOf b.shown c.args.done) (sym c.self.view_is) c.requires
 
-pub passed_now-self-inside-requires-clause-kept : goal.passed_now-self-inside-requires-clause-kept
-passed_now-self-inside-requires-clause-kept g c =
-    let s : Shown = c.self.inside.state in
-    let p : Pass = c.args.done in
-    let n = c.self.invariant.viewers_are in
-    let of : IsOf s p = subst (λ (b : BoardShown). IsOf b.shown p) (sym c.self.view_is) c.requires in
-    let x : SettlesBy s c.commit.new.self c.commit.new.added.items c.in-Ok.place p = c.in-Ok.ensures.settles in
-    let settles : Settles s c.commit.new.self (g.V.Views.content c.self.inside.views) (g.V.Views.content c.post_noted.new.views) p = settles_from (g.V.Views.content c.self.inside.views) (g.V.Views.content c.commit.new.views) (g.V.Views.content c.post_noted.new.views) s c.commit.new.self c.commit.new.added.items c.in-Ok.place p c.commit.ensures.content c.post_noted.ensures.content x in
-    let same : (g.V.Views.graph c.post_noted.new.views) ≡ (g.V.Views.graph c.self.inside.views) = c.post_noted.ensures.graph ∙ c.commit.ensures.graph in
-    kept_commit (g.V.Views.graph c.self.inside.views) (g.V.Views.graph c.post_noted.new.views) (g.V.Views.content c.self.inside.views) (g.V.Views.content c.post_noted.new.views) s c.commit.new.self p c.self.invariant.kept of settles same
-
-pub passed_now-self-inside-requires-clause-seen : goal.passed_now-self-inside-requires-clause-seen
-passed_now-self-inside-requires-clause-seen g c =
-    let s : Shown = c.self.inside.state in
-    let p : Pass = c.args.done in
-    let x : SettlesBy s c.commit.new.self c.commit.new.added.items c.in-Ok.place p = c.in-Ok.ensures.settles in
-    let n = c.self.invariant.viewers_are in
-    seen_posted (g.V.Views.graph c.self.inside.views) (g.V.Views.graph c.commit.new.views) (g.V.Views.workers c.self.inside.views) (g.V.Views.workers c.commit.new.views) (g.V.Views.content c.self.inside.views) (g.V.Views.content c.commit.new.views) (g.V.Views.content c.post_noted.new.views) (g.V.Views.waiting c.self.inside.views) (g.V.Views.waiting c.commit.new.views) (g.V.Views.waiting c.post_noted.new.views) s c.self.invariant.kept n c.commit.ensures.graph c.commit.ensures.workers c.commit.ensures.content c.commit.ensures.waiting c.post_noted.ensures.stays
-    (g.V.Views.graph c.post_noted.new.views) (g.V.Views.workers c.post_noted.new.views) c.commit.new.self c.self.inside.passed (c.post_noted.ensures.graph ∙ c.commit.ensures.graph) (c.post_noted.ensures.workers ∙ c.commit.ensures.workers) (ap (λ (z : Shown). z.graph) x.state) c.self.invariant.passed_seen
-
-pub passed_now-self-inside-requires-clause-viewers : goal.passed_now-self-inside-requires-clause-viewers
-passed_now-self-inside-requires-clause-viewers g c =
-    let s : Shown = c.self.inside.state in
-    let p : Pass = c.args.done in
-    let n = c.self.invariant.viewers_are in
-    let of : IsOf s p = subst (λ (b : BoardShown). IsOf b.shown p) (sym c.self.view_is) c.requires in
-    let x : SettlesBy s c.commit.new.self c.commit.new.added.items c.in-Ok.place p = c.in-Ok.ensures.settles in
-    c.post_noted.ensures.workers ∙ c.commit.ensures.workers ∙ n ∙ sym (settled_workers s c.commit.new.self c.commit.new.added.items c.in-Ok.place p x)
-
-pub passed_now-self-inside-requires-clause-passed : goal.passed_now-self-inside-requires-clause-passed
-passed_now-self-inside-requires-clause-passed g c =
-    let s : Shown = c.self.inside.state in
-    let p : Pass = c.args.done in
-    let n = c.self.invariant.viewers_are in
-    let of : IsOf s p = subst (λ (b : BoardShown). IsOf b.shown p) (sym c.self.view_is) c.requires in
-    let x : SettlesBy s c.commit.new.self c.commit.new.added.items c.in-Ok.place p = c.in-Ok.ensures.settles in
-    let settles : Settles s c.commit.new.self (g.V.Views.content c.self.inside.views) (g.V.Views.content c.post_noted.new.views) p = settles_from (g.V.Views.content c.self.inside.views) (g.V.Views.content c.commit.new.views) (g.V.Views.content c.post_noted.new.views) s c.commit.new.self c.commit.new.added.items c.in-Ok.place p c.commit.ensures.content c.post_noted.ensures.content x in
-    let same : (g.V.Views.graph c.post_noted.new.views) ≡ (g.V.Views.graph c.self.inside.views) = c.post_noted.ensures.graph ∙ c.commit.ensures.graph in
-    committed_passed (g.V.Views.graph c.self.inside.views) (g.V.Views.workers c.self.inside.views) (g.V.Views.content c.self.inside.views) (g.V.Views.waiting c.self.inside.views) (g.V.Views.room c.self.inside.views) g.V.Views.late c.self.inside.passed s c.self.invariant c.commit.new.self (g.V.Views.content c.post_noted.new.views) p of settles
-
 pub invariant_of-self : goal.invariant_of-self
 invariant_of-self g c =
     let s : Shown = c.self.inside.state in
@@ -110,9 +70,9 @@ invariant_of-self g c =
           omega (arith, r, q, o, m, k)
           );
       prompt = λ late w k l m. posted_prompt g.V.Views.late (g.V.Views.waiting c.commit.new.views) (g.V.Views.waiting c.self.inside.views) (g.V.Views.waiting c.post_noted.new.views) (batch c.worker-worker.result c.commit.new.added.items (c.in-Ok.place ∷ [])) (length c.commit.new.added.items + length (c.in-Ok.place ∷ [])) (g.V.Views.workers c.self.inside.views) c.commit.ensures.waiting (λ x y z. c.post_noted.ensures.waiting x y (let e = c.commit.ensures.workers in omega (arith, z, e))) c.self.invariant.prompt late w k (let e = c.post_noted.ensures.workers in let f = c.commit.ensures.workers in omega (arith, l, e, f)) (let e = c.post_noted.ensures.workers in let f = c.commit.ensures.workers in omega (arith, m, e, f));
-      passed_are = c.passed_now-self-inside.ensures.passed;
-      passed_most = c.passed_now-self-inside.ensures.most;
-      passed_seen = c.passed_now-self-inside.ensures.seen;
+      passed_are = (committed_passed (g.V.Views.graph c.self.inside.views) (g.V.Views.workers c.self.inside.views) (g.V.Views.content c.self.inside.views) (g.V.Views.waiting c.self.inside.views) (g.V.Views.room c.self.inside.views) g.V.Views.late c.self.inside.passed s c.self.invariant c.commit.new.self (g.V.Views.content c.post_noted.new.views) p of settles);
+      passed_seen = (seen_posted (g.V.Views.graph c.self.inside.views) (g.V.Views.graph c.commit.new.views) (g.V.Views.workers c.self.inside.views) (g.V.Views.workers c.commit.new.views) (g.V.Views.content c.self.inside.views) (g.V.Views.content c.commit.new.views) (g.V.Views.content c.post_noted.new.views) (g.V.Views.waiting c.self.inside.views) (g.V.Views.waiting c.commit.new.views) (g.V.Views.waiting c.post_noted.new.views) s c.self.invariant.kept n c.commit.ensures.graph c.commit.ensures.workers c.commit.ensures.content c.commit.ensures.waiting c.post_noted.ensures.stays
+          (g.V.Views.graph c.post_noted.new.views) (g.V.Views.workers c.post_noted.new.views) c.commit.new.self c.self.inside.passed (c.post_noted.ensures.graph ∙ c.commit.ensures.graph) (c.post_noted.ensures.workers ∙ c.commit.ensures.workers) (ap (λ (z : Shown). z.graph) x.state) c.self.invariant.passed_seen);
     }
 
 pub invariant_of-self-in-Err : goal.invariant_of-self-in-Err
@@ -158,15 +118,15 @@ returns-in-Ok-clause-posts g c =
     let settles : Settles s c.commit.new.self (g.V.Views.content c.self.inside.views) (g.V.Views.content c.post_noted.new.views) p = settles_from (g.V.Views.content c.self.inside.views) (g.V.Views.content c.commit.new.views) (g.V.Views.content c.post_noted.new.views) s c.commit.new.self c.commit.new.added.items c.in-Ok.place p c.commit.ensures.content c.post_noted.ensures.content x in
     let same : (g.V.Views.graph c.post_noted.new.views) ≡ (g.V.Views.graph c.self.inside.views) = c.post_noted.ensures.graph ∙ c.commit.ensures.graph in
     let kept_then : IsKept (g.V.Views.graph c.post_noted.new.views) (g.V.Views.content c.post_noted.new.views) c.commit.new.self = kept_commit (g.V.Views.graph c.self.inside.views) (g.V.Views.graph c.post_noted.new.views) (g.V.Views.content c.self.inside.views) (g.V.Views.content c.post_noted.new.views) s c.commit.new.self p c.self.invariant.kept of settles same in
-    let called = keeps_called (g.V.Views.graph c.self.inside.views) (g.V.Views.graph c.post_noted.new.views) (g.V.Views.workers c.self.inside.views) (g.V.Views.content c.self.inside.views) (g.V.Views.content c.post_noted.new.views) (g.V.Views.waiting c.self.inside.views) (g.V.Views.waiting c.post_noted.new.views) (g.V.Views.behind c.self.inside.views 0) (g.V.Views.behind c.post_noted.new.views 0) s c.commit.new.self c.self.inside.passed c.passed_now-self-inside.result (g.met.V.Views.as_lists c.self.inside.views 0) (g.met.V.Views.as_lists c.post_noted.new.views 0) c.self.invariant.kept kept_then
+    let called = keeps_called (g.V.Views.graph c.self.inside.views) (g.V.Views.graph c.post_noted.new.views) (g.V.Views.workers c.self.inside.views) (g.V.Views.content c.self.inside.views) (g.V.Views.content c.post_noted.new.views) (g.V.Views.waiting c.self.inside.views) (g.V.Views.waiting c.post_noted.new.views) (g.V.Views.behind c.self.inside.views 0) (g.V.Views.behind c.post_noted.new.views 0) s c.commit.new.self c.self.inside.passed c.self.inside.passed (g.met.V.Views.as_lists c.self.inside.views 0) (g.met.V.Views.as_lists c.post_noted.new.views 0) c.self.invariant.kept kept_then
     n (n ∙ sym (settled_workers s c.commit.new.self c.commit.new.added.items c.in-Ok.place p x)) (c.post_noted.ensures.graph ∙ c.commit.ensures.graph)
     (none_posted (g.V.Views.graph c.self.inside.views) (g.V.Views.graph c.commit.new.views) (g.V.Views.workers c.self.inside.views) (g.V.Views.workers c.commit.new.views) (g.V.Views.content c.self.inside.views) (g.V.Views.content c.commit.new.views) (g.V.Views.content c.post_noted.new.views) (g.V.Views.waiting c.self.inside.views) (g.V.Views.waiting c.commit.new.views) (g.V.Views.waiting c.post_noted.new.views) s c.self.invariant.kept n c.commit.ensures.graph c.commit.ensures.workers c.commit.ensures.content c.commit.ensures.waiting c.post_noted.ensures.stays) in
     let after = posted_some g.V.Views.late (g.V.Views.waiting c.commit.new.views) (g.V.Views.waiting c.self.inside.views) (g.V.Views.waiting c.post_noted.new.views) (batch c.worker-worker.result c.commit.new.added.items (c.in-Ok.place ∷ [])) (length c.commit.new.added.items + length (c.in-Ok.place ∷ [])) (g.V.Views.workers c.self.inside.views) (omega arith) c.commit.ensures.waiting (λ w k l. c.post_noted.ensures.waiting w k (let e = c.commit.ensures.workers in omega (arith, l, e))) in
-    let one : Posts g.V.Views.late c.worker-worker.result (board_of s (g.V.Views.workers c.self.inside.views) (g.V.Views.waiting c.self.inside.views) (g.V.Views.behind c.self.inside.views 0) c.self.inside.passed) (board_of c.commit.new.self (g.V.Views.workers c.self.inside.views) (g.V.Views.waiting c.post_noted.new.views) (g.V.Views.behind c.post_noted.new.views 0) c.passed_now-self-inside.result) =
-    posts s (g.V.Views.workers c.self.inside.views) (g.V.Views.waiting c.self.inside.views) c.self.inside.passed c.commit.new.self (g.V.Views.waiting c.post_noted.new.views) c.passed_now-self-inside.result g.V.Views.late c.worker-worker.result c.commit.new.added.items (c.in-Ok.place ∷ []) (g.V.Views.behind c.self.inside.views 0) (g.V.Views.behind c.post_noted.new.views 0) (sym n) after called in
-    let A : ℕ → Type 0 = λ m. Posts g.V.Views.late m (board_of s (g.V.Views.workers c.self.inside.views) (g.V.Views.waiting c.self.inside.views) (g.V.Views.behind c.self.inside.views 0) c.self.inside.passed) (board_of c.commit.new.self (g.V.Views.workers c.post_noted.new.views) (g.V.Views.waiting c.post_noted.new.views) (g.V.Views.behind c.post_noted.new.views 0) c.passed_now-self-inside.result) in
-    let B : ℕ → Type 0 = λ m. Posts g.V.Views.late c.worker-worker.result (board_of s (g.V.Views.workers c.self.inside.views) (g.V.Views.waiting c.self.inside.views) (g.V.Views.behind c.self.inside.views 0) c.self.inside.passed) (board_of c.commit.new.self m (g.V.Views.waiting c.post_noted.new.views) (g.V.Views.behind c.post_noted.new.views 0) c.passed_now-self-inside.result) in
-    let D : BoardShown → Type 0 = λ z. Posts g.V.Views.late p.worker z (board_of c.commit.new.self (g.V.Views.workers c.post_noted.new.views) (g.V.Views.waiting c.post_noted.new.views) (g.V.Views.behind c.post_noted.new.views 0) c.passed_now-self-inside.result) in
+    let one : Posts g.V.Views.late c.worker-worker.result (board_of s (g.V.Views.workers c.self.inside.views) (g.V.Views.waiting c.self.inside.views) (g.V.Views.behind c.self.inside.views 0) c.self.inside.passed) (board_of c.commit.new.self (g.V.Views.workers c.self.inside.views) (g.V.Views.waiting c.post_noted.new.views) (g.V.Views.behind c.post_noted.new.views 0) c.self.inside.passed) =
+    posts s (g.V.Views.workers c.self.inside.views) (g.V.Views.waiting c.self.inside.views) c.self.inside.passed c.commit.new.self (g.V.Views.waiting c.post_noted.new.views) c.self.inside.passed g.V.Views.late c.worker-worker.result c.commit.new.added.items (c.in-Ok.place ∷ []) (g.V.Views.behind c.self.inside.views 0) (g.V.Views.behind c.post_noted.new.views 0) (sym n) after called in
+    let A : ℕ → Type 0 = λ m. Posts g.V.Views.late m (board_of s (g.V.Views.workers c.self.inside.views) (g.V.Views.waiting c.self.inside.views) (g.V.Views.behind c.self.inside.views 0) c.self.inside.passed) (board_of c.commit.new.self (g.V.Views.workers c.post_noted.new.views) (g.V.Views.waiting c.post_noted.new.views) (g.V.Views.behind c.post_noted.new.views 0) c.self.inside.passed) in
+    let B : ℕ → Type 0 = λ m. Posts g.V.Views.late c.worker-worker.result (board_of s (g.V.Views.workers c.self.inside.views) (g.V.Views.waiting c.self.inside.views) (g.V.Views.behind c.self.inside.views 0) c.self.inside.passed) (board_of c.commit.new.self m (g.V.Views.waiting c.post_noted.new.views) (g.V.Views.behind c.post_noted.new.views 0) c.self.inside.passed) in
+    let D : BoardShown → Type 0 = λ z. Posts g.V.Views.late p.worker z (board_of c.commit.new.self (g.V.Views.workers c.post_noted.new.views) (g.V.Views.waiting c.post_noted.new.views) (g.V.Views.behind c.post_noted.new.views 0) c.self.inside.passed) in
     subst D c.self.view_is (subst A c.worker-worker.ensures (subst B (sym (c.post_noted.ensures.workers ∙ c.commit.ensures.workers)) one))
 
 pub returns-in-Err-clause-refused : goal.returns-in-Err-clause-refused

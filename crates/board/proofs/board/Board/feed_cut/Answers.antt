@@ -52,64 +52,6 @@ post_noted-requires-clause-may g c =
     let by : c.worker_count-feeder.result ≡ length s.sides = c.worker_count-feeder.ensures ∙ fed_workers s c.feed.new.self c.feed.new.added.items i rs f in
     may_feed c.law_of_step.ensures.may (g.V.Views.graph c.self.inside.views) (g.V.Views.graph c.feed.new.views) (g.V.Views.workers c.feed.new.views) (g.V.Views.content c.self.inside.views) (g.V.Views.content c.feed.new.views) s c.self.invariant.kept (c.feed.ensures.workers ∙ n) c.feed.ensures.graph c.feed.ensures.content i a.takes c.worker_count-feeder.result by rs a.some a.fields c.feed.new.self c.feed.new.added.items f
 
-pub passed_now-self-inside-requires-clause-kept : goal.passed_now-self-inside-requires-clause-kept
-passed_now-self-inside-requires-clause-kept g c =
-    let s : Shown = c.self.inside.state in
-    let i : ℕ = c.args.cut.input in
-    let rs : List Record = c.args.cut.batch in
-    let asked : feed_refusal c.args.self.now.shown c.input.result c.batch-batch.result.now ≡ None = sym c.feed_refusal.ensures ∙ c.in_default.is in
-    let here : feed_refusal c.args.self.now.shown i c.batch-batch.result.now ≡ None = subst (λ (n : ℕ). feed_refusal c.args.self.now.shown n c.batch-batch.result.now ≡ None) c.input.ensures asked in
-    let these : feed_refusal c.args.self.now.shown i rs ≡ None = subst (λ (z : List Record). feed_refusal c.args.self.now.shown i z ≡ None) c.batch-batch.ensures here in
-    let none : feed_refusal s i rs ≡ None = subst (λ (z : BoardShown). feed_refusal z.shown i rs ≡ None) (sym c.self.view_is) these in
-    let a = accepted s i rs none (subst (λ (z : List Record). 0 < length z) c.batch-batch.ensures (some_records c.batch-batch.result.now c.arity-fields.ensures.some)) (subst (λ (z : List Record). All (λ (r : Record). length r ≡ arity_of z) z) c.batch-batch.ensures (each_record (λ r. length r ≡ arity_of c.batch-batch.result.now) c.batch-batch.result.now c.len-some.ensures.all c.arity-fields.ensures.each)) in
-    let f : FeedsBy s c.feed.new.self c.feed.new.added.items i rs = c.in-Ok.ensures.feeds in
-    let n = c.self.invariant.viewers_are in
-    let feeds : Feeds s c.feed.new.self (g.V.Views.content c.self.inside.views) (g.V.Views.content c.post_noted.new.views) i rs = feeds_from (g.V.Views.content c.self.inside.views) (g.V.Views.content c.feed.new.views) (g.V.Views.content c.post_noted.new.views) s c.feed.new.self c.feed.new.added.items i rs c.feed.ensures.content c.post_noted.ensures.content f in
-    let same : (g.V.Views.graph c.post_noted.new.views) ≡ (g.V.Views.graph c.self.inside.views) = c.post_noted.ensures.graph ∙ c.feed.ensures.graph in
-    feeds_kept (g.V.Views.graph c.self.inside.views) (g.V.Views.graph c.post_noted.new.views) (g.V.Views.content c.self.inside.views) (g.V.Views.content c.post_noted.new.views) s c.feed.new.self c.self.invariant.kept i a.takes rs a.some a.fields feeds same
-
-pub passed_now-self-inside-requires-clause-seen : goal.passed_now-self-inside-requires-clause-seen
-passed_now-self-inside-requires-clause-seen g c =
-    let s : Shown = c.self.inside.state in
-    let i : ℕ = c.args.cut.input in
-    let rs : List Record = c.args.cut.batch in
-    let f : FeedsBy s c.feed.new.self c.feed.new.added.items i rs = c.in-Ok.ensures.feeds in
-    let n = c.self.invariant.viewers_are in
-    seen_posted (g.V.Views.graph c.self.inside.views) (g.V.Views.graph c.feed.new.views) (g.V.Views.workers c.self.inside.views) (g.V.Views.workers c.feed.new.views) (g.V.Views.content c.self.inside.views) (g.V.Views.content c.feed.new.views) (g.V.Views.content c.post_noted.new.views) (g.V.Views.waiting c.self.inside.views) (g.V.Views.waiting c.feed.new.views) (g.V.Views.waiting c.post_noted.new.views) s c.self.invariant.kept n c.feed.ensures.graph c.feed.ensures.workers c.feed.ensures.content c.feed.ensures.waiting c.post_noted.ensures.stays
-    (g.V.Views.graph c.post_noted.new.views) (g.V.Views.workers c.post_noted.new.views) c.feed.new.self c.self.inside.passed (c.post_noted.ensures.graph ∙ c.feed.ensures.graph) (c.post_noted.ensures.workers ∙ c.feed.ensures.workers) (ap (λ (z : Shown). z.graph) f.state) c.self.invariant.passed_seen
-
-pub passed_now-self-inside-requires-clause-viewers : goal.passed_now-self-inside-requires-clause-viewers
-passed_now-self-inside-requires-clause-viewers g c =
-    let s : Shown = c.self.inside.state in
-    let i : ℕ = c.args.cut.input in
-    let rs : List Record = c.args.cut.batch in
-    let asked : feed_refusal c.args.self.now.shown c.input.result c.batch-batch.result.now ≡ None = sym c.feed_refusal.ensures ∙ c.in_default.is in
-    let here : feed_refusal c.args.self.now.shown i c.batch-batch.result.now ≡ None = subst (λ (n : ℕ). feed_refusal c.args.self.now.shown n c.batch-batch.result.now ≡ None) c.input.ensures asked in
-    let these : feed_refusal c.args.self.now.shown i rs ≡ None = subst (λ (z : List Record). feed_refusal c.args.self.now.shown i z ≡ None) c.batch-batch.ensures here in
-    let none : feed_refusal s i rs ≡ None = subst (λ (z : BoardShown). feed_refusal z.shown i rs ≡ None) (sym c.self.view_is) these in
-    let a = accepted s i rs none (subst (λ (z : List Record). 0 < length z) c.batch-batch.ensures (some_records c.batch-batch.result.now c.arity-fields.ensures.some)) (subst (λ (z : List Record). All (λ (r : Record). length r ≡ arity_of z) z) c.batch-batch.ensures (each_record (λ r. length r ≡ arity_of c.batch-batch.result.now) c.batch-batch.result.now c.len-some.ensures.all c.arity-fields.ensures.each)) in
-    let f : FeedsBy s c.feed.new.self c.feed.new.added.items i rs = c.in-Ok.ensures.feeds in
-    let n = c.self.invariant.viewers_are in
-    let feeds : Feeds s c.feed.new.self (g.V.Views.content c.self.inside.views) (g.V.Views.content c.post_noted.new.views) i rs = feeds_from (g.V.Views.content c.self.inside.views) (g.V.Views.content c.feed.new.views) (g.V.Views.content c.post_noted.new.views) s c.feed.new.self c.feed.new.added.items i rs c.feed.ensures.content c.post_noted.ensures.content f in
-    let same : (g.V.Views.graph c.post_noted.new.views) ≡ (g.V.Views.graph c.self.inside.views) = c.post_noted.ensures.graph ∙ c.feed.ensures.graph in
-    c.post_noted.ensures.workers ∙ c.feed.ensures.workers ∙ n ∙ sym (fed_workers s c.feed.new.self c.feed.new.added.items i rs f)
-
-pub passed_now-self-inside-requires-clause-passed : goal.passed_now-self-inside-requires-clause-passed
-passed_now-self-inside-requires-clause-passed g c =
-    let s : Shown = c.self.inside.state in
-    let i : ℕ = c.args.cut.input in
-    let rs : List Record = c.args.cut.batch in
-    let asked : feed_refusal c.args.self.now.shown c.input.result c.batch-batch.result.now ≡ None = sym c.feed_refusal.ensures ∙ c.in_default.is in
-    let here : feed_refusal c.args.self.now.shown i c.batch-batch.result.now ≡ None = subst (λ (n : ℕ). feed_refusal c.args.self.now.shown n c.batch-batch.result.now ≡ None) c.input.ensures asked in
-    let these : feed_refusal c.args.self.now.shown i rs ≡ None = subst (λ (z : List Record). feed_refusal c.args.self.now.shown i z ≡ None) c.batch-batch.ensures here in
-    let none : feed_refusal s i rs ≡ None = subst (λ (z : BoardShown). feed_refusal z.shown i rs ≡ None) (sym c.self.view_is) these in
-    let a = accepted s i rs none (subst (λ (z : List Record). 0 < length z) c.batch-batch.ensures (some_records c.batch-batch.result.now c.arity-fields.ensures.some)) (subst (λ (z : List Record). All (λ (r : Record). length r ≡ arity_of z) z) c.batch-batch.ensures (each_record (λ r. length r ≡ arity_of c.batch-batch.result.now) c.batch-batch.result.now c.len-some.ensures.all c.arity-fields.ensures.each)) in
-    let f : FeedsBy s c.feed.new.self c.feed.new.added.items i rs = c.in-Ok.ensures.feeds in
-    let n = c.self.invariant.viewers_are in
-    let feeds : Feeds s c.feed.new.self (g.V.Views.content c.self.inside.views) (g.V.Views.content c.post_noted.new.views) i rs = feeds_from (g.V.Views.content c.self.inside.views) (g.V.Views.content c.feed.new.views) (g.V.Views.content c.post_noted.new.views) s c.feed.new.self c.feed.new.added.items i rs c.feed.ensures.content c.post_noted.ensures.content f in
-    let same : (g.V.Views.graph c.post_noted.new.views) ≡ (g.V.Views.graph c.self.inside.views) = c.post_noted.ensures.graph ∙ c.feed.ensures.graph in
-    fed_passed (g.V.Views.graph c.self.inside.views) (g.V.Views.workers c.self.inside.views) (g.V.Views.content c.self.inside.views) (g.V.Views.waiting c.self.inside.views) (g.V.Views.room c.self.inside.views) g.V.Views.late c.self.inside.passed s c.self.invariant c.feed.new.self (g.V.Views.content c.post_noted.new.views) i a.takes rs a.some a.fields feeds
-
 pub invariant_of-self : goal.invariant_of-self
 invariant_of-self g c =
     let s : Shown = c.self.inside.state in
@@ -136,9 +78,9 @@ invariant_of-self g c =
           omega (arith, r, p, o, m, k)
           );
       prompt = λ late w k l m. posted_prompt g.V.Views.late (g.V.Views.waiting c.feed.new.views) (g.V.Views.waiting c.self.inside.views) (g.V.Views.waiting c.post_noted.new.views) (batch c.worker_count-feeder.result c.feed.new.added.items []) (length c.feed.new.added.items + 0) (g.V.Views.workers c.self.inside.views) c.feed.ensures.waiting (λ x y z. c.post_noted.ensures.waiting x y (let e = c.feed.ensures.workers in omega (arith, z, e))) c.self.invariant.prompt late w k (let e = c.post_noted.ensures.workers in let e' = c.feed.ensures.workers in omega (arith, l, e, e')) (let e = c.post_noted.ensures.workers in let e' = c.feed.ensures.workers in omega (arith, m, e, e'));
-      passed_are = c.passed_now-self-inside.ensures.passed;
-      passed_most = c.passed_now-self-inside.ensures.most;
-      passed_seen = c.passed_now-self-inside.ensures.seen;
+      passed_are = (fed_passed (g.V.Views.graph c.self.inside.views) (g.V.Views.workers c.self.inside.views) (g.V.Views.content c.self.inside.views) (g.V.Views.waiting c.self.inside.views) (g.V.Views.room c.self.inside.views) g.V.Views.late c.self.inside.passed s c.self.invariant c.feed.new.self (g.V.Views.content c.post_noted.new.views) i a.takes rs a.some a.fields feeds);
+      passed_seen = (seen_posted (g.V.Views.graph c.self.inside.views) (g.V.Views.graph c.feed.new.views) (g.V.Views.workers c.self.inside.views) (g.V.Views.workers c.feed.new.views) (g.V.Views.content c.self.inside.views) (g.V.Views.content c.feed.new.views) (g.V.Views.content c.post_noted.new.views) (g.V.Views.waiting c.self.inside.views) (g.V.Views.waiting c.feed.new.views) (g.V.Views.waiting c.post_noted.new.views) s c.self.invariant.kept n c.feed.ensures.graph c.feed.ensures.workers c.feed.ensures.content c.feed.ensures.waiting c.post_noted.ensures.stays
+          (g.V.Views.graph c.post_noted.new.views) (g.V.Views.workers c.post_noted.new.views) c.feed.new.self c.self.inside.passed (c.post_noted.ensures.graph ∙ c.feed.ensures.graph) (c.post_noted.ensures.workers ∙ c.feed.ensures.workers) (ap (λ (z : Shown). z.graph) f.state) c.self.invariant.passed_seen);
     }
 
 pub invariant_of-self-in-Err : goal.invariant_of-self-in-Err
@@ -184,14 +126,14 @@ returns-in-Ok-clause-posts g c =
     let same : (g.V.Views.graph c.post_noted.new.views) ≡ (g.V.Views.graph c.self.inside.views) = c.post_noted.ensures.graph ∙ c.feed.ensures.graph in
     let by : c.worker_count-feeder.result ≡ length s.sides = c.worker_count-feeder.ensures ∙ fed_workers s c.feed.new.self c.feed.new.added.items i rs f in
     let kept_then : IsKept (g.V.Views.graph c.post_noted.new.views) (g.V.Views.content c.post_noted.new.views) c.feed.new.self = feeds_kept (g.V.Views.graph c.self.inside.views) (g.V.Views.graph c.post_noted.new.views) (g.V.Views.content c.self.inside.views) (g.V.Views.content c.post_noted.new.views) s c.feed.new.self c.self.invariant.kept i a.takes rs a.some a.fields feeds same in
-    let called = keeps_called (g.V.Views.graph c.self.inside.views) (g.V.Views.graph c.post_noted.new.views) (g.V.Views.workers c.self.inside.views) (g.V.Views.content c.self.inside.views) (g.V.Views.content c.post_noted.new.views) (g.V.Views.waiting c.self.inside.views) (g.V.Views.waiting c.post_noted.new.views) (g.V.Views.behind c.self.inside.views 0) (g.V.Views.behind c.post_noted.new.views 0) s c.feed.new.self c.self.inside.passed c.passed_now-self-inside.result (g.met.V.Views.as_lists c.self.inside.views 0) (g.met.V.Views.as_lists c.post_noted.new.views 0) c.self.invariant.kept kept_then
+    let called = keeps_called (g.V.Views.graph c.self.inside.views) (g.V.Views.graph c.post_noted.new.views) (g.V.Views.workers c.self.inside.views) (g.V.Views.content c.self.inside.views) (g.V.Views.content c.post_noted.new.views) (g.V.Views.waiting c.self.inside.views) (g.V.Views.waiting c.post_noted.new.views) (g.V.Views.behind c.self.inside.views 0) (g.V.Views.behind c.post_noted.new.views 0) s c.feed.new.self c.self.inside.passed c.self.inside.passed (g.met.V.Views.as_lists c.self.inside.views 0) (g.met.V.Views.as_lists c.post_noted.new.views 0) c.self.invariant.kept kept_then
     n (n ∙ sym (fed_workers s c.feed.new.self c.feed.new.added.items i rs f)) (c.post_noted.ensures.graph ∙ c.feed.ensures.graph)
     (none_posted (g.V.Views.graph c.self.inside.views) (g.V.Views.graph c.feed.new.views) (g.V.Views.workers c.self.inside.views) (g.V.Views.workers c.feed.new.views) (g.V.Views.content c.self.inside.views) (g.V.Views.content c.feed.new.views) (g.V.Views.content c.post_noted.new.views) (g.V.Views.waiting c.self.inside.views) (g.V.Views.waiting c.feed.new.views) (g.V.Views.waiting c.post_noted.new.views) s c.self.invariant.kept n c.feed.ensures.graph c.feed.ensures.workers c.feed.ensures.content c.feed.ensures.waiting c.post_noted.ensures.stays) in
-    let one : PostsSome g.V.Views.late (length s.sides) (board_of s (g.V.Views.workers c.self.inside.views) (g.V.Views.waiting c.self.inside.views) (g.V.Views.behind c.self.inside.views 0) c.self.inside.passed) (board_of c.feed.new.self (g.V.Views.workers c.self.inside.views) (g.V.Views.waiting c.post_noted.new.views) (g.V.Views.behind c.post_noted.new.views 0) c.passed_now-self-inside.result) =
-    subst (λ (m : ℕ). PostsSome g.V.Views.late m (board_of s (g.V.Views.workers c.self.inside.views) (g.V.Views.waiting c.self.inside.views) (g.V.Views.behind c.self.inside.views 0) c.self.inside.passed) (board_of c.feed.new.self (g.V.Views.workers c.self.inside.views) (g.V.Views.waiting c.post_noted.new.views) (g.V.Views.behind c.post_noted.new.views 0) c.passed_now-self-inside.result)) by
-    (posts_fed g.V.Views.late s c.feed.new.self (g.V.Views.workers c.self.inside.views) c.worker_count-feeder.result (g.V.Views.waiting c.feed.new.views) (g.V.Views.waiting c.self.inside.views) (g.V.Views.waiting c.post_noted.new.views) (g.V.Views.behind c.self.inside.views 0) (g.V.Views.behind c.post_noted.new.views 0) c.self.inside.passed c.passed_now-self-inside.result c.feed.new.added.items i rs f (sym n) c.feed.ensures.waiting (λ w k l. c.post_noted.ensures.waiting w k (let e = c.feed.ensures.workers in omega (arith, l, e))) called) in
-    let A : ℕ → Type 0 = λ m. PostsSome g.V.Views.late (length s.sides) (board_of s (g.V.Views.workers c.self.inside.views) (g.V.Views.waiting c.self.inside.views) (g.V.Views.behind c.self.inside.views 0) c.self.inside.passed) (board_of c.feed.new.self m (g.V.Views.waiting c.post_noted.new.views) (g.V.Views.behind c.post_noted.new.views 0) c.passed_now-self-inside.result) in
-    let B : BoardShown → Type 0 = λ z. PostsSome g.V.Views.late (length z.shown.sides) z (board_of c.feed.new.self (g.V.Views.workers c.post_noted.new.views) (g.V.Views.waiting c.post_noted.new.views) (g.V.Views.behind c.post_noted.new.views 0) c.passed_now-self-inside.result) in
+    let one : PostsSome g.V.Views.late (length s.sides) (board_of s (g.V.Views.workers c.self.inside.views) (g.V.Views.waiting c.self.inside.views) (g.V.Views.behind c.self.inside.views 0) c.self.inside.passed) (board_of c.feed.new.self (g.V.Views.workers c.self.inside.views) (g.V.Views.waiting c.post_noted.new.views) (g.V.Views.behind c.post_noted.new.views 0) c.self.inside.passed) =
+    subst (λ (m : ℕ). PostsSome g.V.Views.late m (board_of s (g.V.Views.workers c.self.inside.views) (g.V.Views.waiting c.self.inside.views) (g.V.Views.behind c.self.inside.views 0) c.self.inside.passed) (board_of c.feed.new.self (g.V.Views.workers c.self.inside.views) (g.V.Views.waiting c.post_noted.new.views) (g.V.Views.behind c.post_noted.new.views 0) c.self.inside.passed)) by
+    (posts_fed g.V.Views.late s c.feed.new.self (g.V.Views.workers c.self.inside.views) c.worker_count-feeder.result (g.V.Views.waiting c.feed.new.views) (g.V.Views.waiting c.self.inside.views) (g.V.Views.waiting c.post_noted.new.views) (g.V.Views.behind c.self.inside.views 0) (g.V.Views.behind c.post_noted.new.views 0) c.self.inside.passed c.self.inside.passed c.feed.new.added.items i rs f (sym n) c.feed.ensures.waiting (λ w k l. c.post_noted.ensures.waiting w k (let e = c.feed.ensures.workers in omega (arith, l, e))) called) in
+    let A : ℕ → Type 0 = λ m. PostsSome g.V.Views.late (length s.sides) (board_of s (g.V.Views.workers c.self.inside.views) (g.V.Views.waiting c.self.inside.views) (g.V.Views.behind c.self.inside.views 0) c.self.inside.passed) (board_of c.feed.new.self m (g.V.Views.waiting c.post_noted.new.views) (g.V.Views.behind c.post_noted.new.views 0) c.self.inside.passed) in
+    let B : BoardShown → Type 0 = λ z. PostsSome g.V.Views.late (length z.shown.sides) z (board_of c.feed.new.self (g.V.Views.workers c.post_noted.new.views) (g.V.Views.waiting c.post_noted.new.views) (g.V.Views.behind c.post_noted.new.views 0) c.self.inside.passed) in
     subst B c.self.view_is (subst A (sym (c.post_noted.ensures.workers ∙ c.feed.ensures.workers)) one)
 
 pub returns-in-Err-clause-refused : goal.returns-in-Err-clause-refused

@@ -34,48 +34,6 @@ post-requires-clause-may g c =
     let h : MergesMail s c.merge.new.self k c.args.place c.in-Some.ends = c.in-Some.ensures.merges in
     may_merge c.law_of_step.ensures.may (g.V.Views.graph c.self.inside.views) (g.V.Views.graph c.reserve.new.self) (g.V.Views.workers c.reserve.new.self) (g.V.Views.content c.self.inside.views) (g.V.Views.content c.reserve.new.self) s c.self.invariant.kept (c.reserve.ensures.workers ∙ n) c.reserve.ensures.graph c.reserve.ensures.content k there free runs c.merge.new.self c.args.place c.in-Some.ends h
 
-pub passed_now-self-inside-requires-clause-kept : goal.passed_now-self-inside-requires-clause-kept
-passed_now-self-inside-requires-clause-kept g c =
-    let s : Shown = c.self.inside.state in
-    let k : ℕ = c.args.worker in
-    let there : k < length s.sides = c.if-not-has_worker.ensures in
-    let free : (side_at s k).place ≡ Home = c.if-not-is_free.ensures in
-    let runs : s.stopped ≡ false = sym c.is_stopped.ensures ∙ c.if-is_stopped.false in
-    let n = c.self.invariant.viewers_are in
-    let h : MergesMail s c.merge.new.self k c.args.place c.in-Some.ends = c.in-Some.ensures.merges in
-    merge_posted (g.V.Views.graph c.self.inside.views) (g.V.Views.graph c.post.new.views) (g.V.Views.content c.self.inside.views) (g.V.Views.content c.reserve.new.self) (g.V.Views.content c.post.new.views) s c.self.invariant.kept k there free runs c.merge.new.self c.args.place c.in-Some.ends h (c.post.ensures.graph ∙ c.reserve.ensures.graph) c.reserve.ensures.content c.post.ensures.content
-
-pub passed_now-self-inside-requires-clause-seen : goal.passed_now-self-inside-requires-clause-seen
-passed_now-self-inside-requires-clause-seen g c =
-    let s : Shown = c.self.inside.state in
-    let k : ℕ = c.args.worker in
-    let h : MergesMail s c.merge.new.self k c.args.place c.in-Some.ends = c.in-Some.ensures.merges in
-    let n = c.self.invariant.viewers_are in
-    seen_posted (g.V.Views.graph c.self.inside.views) (g.V.Views.graph c.reserve.new.self) (g.V.Views.workers c.self.inside.views) (g.V.Views.workers c.reserve.new.self) (g.V.Views.content c.self.inside.views) (g.V.Views.content c.reserve.new.self) (g.V.Views.content c.post.new.views) (g.V.Views.waiting c.self.inside.views) (g.V.Views.waiting c.reserve.new.self) (g.V.Views.waiting c.post.new.views) s c.self.invariant.kept n c.reserve.ensures.graph c.reserve.ensures.workers c.reserve.ensures.content c.reserve.ensures.waiting c.post.ensures.stays
-    (g.V.Views.graph c.post.new.views) (g.V.Views.workers c.post.new.views) c.merge.new.self c.self.inside.passed (c.post.ensures.graph ∙ c.reserve.ensures.graph) (c.post.ensures.workers ∙ c.reserve.ensures.workers) (ap (λ (z : Shown). z.graph) h.state) c.self.invariant.passed_seen
-
-pub passed_now-self-inside-requires-clause-viewers : goal.passed_now-self-inside-requires-clause-viewers
-passed_now-self-inside-requires-clause-viewers g c =
-    let s : Shown = c.self.inside.state in
-    let k : ℕ = c.args.worker in
-    let there : k < length s.sides = c.if-not-has_worker.ensures in
-    let free : (side_at s k).place ≡ Home = c.if-not-is_free.ensures in
-    let runs : s.stopped ≡ false = sym c.is_stopped.ensures ∙ c.if-is_stopped.false in
-    let n = c.self.invariant.viewers_are in
-    let h : MergesMail s c.merge.new.self k c.args.place c.in-Some.ends = c.in-Some.ensures.merges in
-    c.post.ensures.workers ∙ c.reserve.ensures.workers ∙ n ∙ sym (merge_goes s k there free runs c.merge.new.self c.args.place c.in-Some.ends h (later (g.V.Views.graph c.self.inside.views) (g.V.Views.content c.self.inside.views) s c.self.invariant.kept)).workers
-
-pub passed_now-self-inside-requires-clause-passed : goal.passed_now-self-inside-requires-clause-passed
-passed_now-self-inside-requires-clause-passed g c =
-    let s : Shown = c.self.inside.state in
-    let k : ℕ = c.args.worker in
-    let there : k < length s.sides = c.if-not-has_worker.ensures in
-    let free : (side_at s k).place ≡ Home = c.if-not-is_free.ensures in
-    let runs : s.stopped ≡ false = sym c.is_stopped.ensures ∙ c.if-is_stopped.false in
-    let n = c.self.invariant.viewers_are in
-    let h : MergesMail s c.merge.new.self k c.args.place c.in-Some.ends = c.in-Some.ensures.merges in
-    merged_passed (g.V.Views.graph c.self.inside.views) (g.V.Views.workers c.self.inside.views) (g.V.Views.content c.self.inside.views) (g.V.Views.waiting c.self.inside.views) (g.V.Views.room c.self.inside.views) g.V.Views.late c.self.inside.passed s c.self.invariant c.merge.new.self k there free runs c.args.place c.in-Some.ends h
-
 pub invariant_of-self-in-Some : goal.invariant_of-self-in-Some
 invariant_of-self-in-Some g c =
     let s : Shown = c.self.inside.state in
@@ -98,9 +56,9 @@ invariant_of-self-in-Some g c =
           omega (arith, r, p, o, m, i, count)
           );
       prompt = λ late w j l m. posted_prompt g.V.Views.late (g.V.Views.waiting c.reserve.new.self) (g.V.Views.waiting c.self.inside.views) (g.V.Views.waiting c.post.new.views) (batch k [] (c.in-Some.ends ∷ [])) (0 + length (c.in-Some.ends ∷ [])) (g.V.Views.workers c.self.inside.views) c.reserve.ensures.waiting (λ x y z. c.post.ensures.waiting x y (let e = c.reserve.ensures.workers in omega (arith, z, e))) c.self.invariant.prompt late w j (let e = c.post.ensures.workers in let f = c.reserve.ensures.workers in omega (arith, l, e, f)) (let e = c.post.ensures.workers in let f = c.reserve.ensures.workers in omega (arith, m, e, f));
-      passed_are = c.passed_now-self-inside.ensures.passed;
-      passed_most = c.passed_now-self-inside.ensures.most;
-      passed_seen = c.passed_now-self-inside.ensures.seen;
+      passed_are = (merged_passed (g.V.Views.graph c.self.inside.views) (g.V.Views.workers c.self.inside.views) (g.V.Views.content c.self.inside.views) (g.V.Views.waiting c.self.inside.views) (g.V.Views.room c.self.inside.views) g.V.Views.late c.self.inside.passed s c.self.invariant c.merge.new.self k there free runs c.args.place c.in-Some.ends h);
+      passed_seen = (seen_posted (g.V.Views.graph c.self.inside.views) (g.V.Views.graph c.reserve.new.self) (g.V.Views.workers c.self.inside.views) (g.V.Views.workers c.reserve.new.self) (g.V.Views.content c.self.inside.views) (g.V.Views.content c.reserve.new.self) (g.V.Views.content c.post.new.views) (g.V.Views.waiting c.self.inside.views) (g.V.Views.waiting c.reserve.new.self) (g.V.Views.waiting c.post.new.views) s c.self.invariant.kept n c.reserve.ensures.graph c.reserve.ensures.workers c.reserve.ensures.content c.reserve.ensures.waiting c.post.ensures.stays
+          (g.V.Views.graph c.post.new.views) (g.V.Views.workers c.post.new.views) c.merge.new.self c.self.inside.passed (c.post.ensures.graph ∙ c.reserve.ensures.graph) (c.post.ensures.workers ∙ c.reserve.ensures.workers) (ap (λ (z : Shown). z.graph) h.state) c.self.invariant.passed_seen);
     }
 
 pub invariant_of-self : goal.invariant_of-self
@@ -145,14 +103,14 @@ returns-in-Some-clause-posts g c e =
     let n = c.self.invariant.viewers_are in
     let h : MergesMail s c.merge.new.self k c.args.place c.in-Some.ends = c.in-Some.ensures.merges in
     let kept_then : IsKept (g.V.Views.graph c.post.new.views) (g.V.Views.content c.post.new.views) c.merge.new.self = merge_posted (g.V.Views.graph c.self.inside.views) (g.V.Views.graph c.post.new.views) (g.V.Views.content c.self.inside.views) (g.V.Views.content c.reserve.new.self) (g.V.Views.content c.post.new.views) s c.self.invariant.kept k there free runs c.merge.new.self c.args.place c.in-Some.ends h (c.post.ensures.graph ∙ c.reserve.ensures.graph) c.reserve.ensures.content c.post.ensures.content in
-    let called = keeps_called (g.V.Views.graph c.self.inside.views) (g.V.Views.graph c.post.new.views) (g.V.Views.workers c.self.inside.views) (g.V.Views.content c.self.inside.views) (g.V.Views.content c.post.new.views) (g.V.Views.waiting c.self.inside.views) (g.V.Views.waiting c.post.new.views) (g.V.Views.behind c.self.inside.views 0) (g.V.Views.behind c.post.new.views 0) s c.merge.new.self c.self.inside.passed c.passed_now-self-inside.result (g.met.V.Views.as_lists c.self.inside.views 0) (g.met.V.Views.as_lists c.post.new.views 0) c.self.invariant.kept kept_then
+    let called = keeps_called (g.V.Views.graph c.self.inside.views) (g.V.Views.graph c.post.new.views) (g.V.Views.workers c.self.inside.views) (g.V.Views.content c.self.inside.views) (g.V.Views.content c.post.new.views) (g.V.Views.waiting c.self.inside.views) (g.V.Views.waiting c.post.new.views) (g.V.Views.behind c.self.inside.views 0) (g.V.Views.behind c.post.new.views 0) s c.merge.new.self c.self.inside.passed c.self.inside.passed (g.met.V.Views.as_lists c.self.inside.views 0) (g.met.V.Views.as_lists c.post.new.views 0) c.self.invariant.kept kept_then
     n (n ∙ sym (merge_goes s k there free runs c.merge.new.self c.args.place c.in-Some.ends h (later (g.V.Views.graph c.self.inside.views) (g.V.Views.content c.self.inside.views) s c.self.invariant.kept)).workers) (c.post.ensures.graph ∙ c.reserve.ensures.graph)
     (none_posted (g.V.Views.graph c.self.inside.views) (g.V.Views.graph c.reserve.new.self) (g.V.Views.workers c.self.inside.views) (g.V.Views.workers c.reserve.new.self) (g.V.Views.content c.self.inside.views) (g.V.Views.content c.reserve.new.self) (g.V.Views.content c.post.new.views) (g.V.Views.waiting c.self.inside.views) (g.V.Views.waiting c.reserve.new.self) (g.V.Views.waiting c.post.new.views) s c.self.invariant.kept n c.reserve.ensures.graph c.reserve.ensures.workers c.reserve.ensures.content c.reserve.ensures.waiting c.post.ensures.stays) in
     let after = posted_some g.V.Views.late (g.V.Views.waiting c.reserve.new.self) (g.V.Views.waiting c.self.inside.views) (g.V.Views.waiting c.post.new.views) (batch k [] (c.in-Some.ends ∷ [])) (0 + length (c.in-Some.ends ∷ [])) (g.V.Views.workers c.self.inside.views) (omega arith) c.reserve.ensures.waiting (λ w j l. c.post.ensures.waiting w j (let e = c.reserve.ensures.workers in omega (arith, l, e))) in
-    let one : Posts g.V.Views.late k (board_of s (g.V.Views.workers c.self.inside.views) (g.V.Views.waiting c.self.inside.views) (g.V.Views.behind c.self.inside.views 0) c.self.inside.passed) (board_of c.merge.new.self (g.V.Views.workers c.self.inside.views) (g.V.Views.waiting c.post.new.views) (g.V.Views.behind c.post.new.views 0) c.passed_now-self-inside.result) =
-    posts s (g.V.Views.workers c.self.inside.views) (g.V.Views.waiting c.self.inside.views) c.self.inside.passed c.merge.new.self (g.V.Views.waiting c.post.new.views) c.passed_now-self-inside.result g.V.Views.late k [] (c.in-Some.ends ∷ []) (g.V.Views.behind c.self.inside.views 0) (g.V.Views.behind c.post.new.views 0) (sym n) after called in
-    let B : ℕ → Type 0 = λ m. Posts g.V.Views.late k (board_of s (g.V.Views.workers c.self.inside.views) (g.V.Views.waiting c.self.inside.views) (g.V.Views.behind c.self.inside.views 0) c.self.inside.passed) (board_of c.merge.new.self m (g.V.Views.waiting c.post.new.views) (g.V.Views.behind c.post.new.views 0) c.passed_now-self-inside.result) in
-    let D : BoardShown → Type 0 = λ z. Posts g.V.Views.late k z (board_of c.merge.new.self (g.V.Views.workers c.post.new.views) (g.V.Views.waiting c.post.new.views) (g.V.Views.behind c.post.new.views 0) c.passed_now-self-inside.result) in
+    let one : Posts g.V.Views.late k (board_of s (g.V.Views.workers c.self.inside.views) (g.V.Views.waiting c.self.inside.views) (g.V.Views.behind c.self.inside.views 0) c.self.inside.passed) (board_of c.merge.new.self (g.V.Views.workers c.self.inside.views) (g.V.Views.waiting c.post.new.views) (g.V.Views.behind c.post.new.views 0) c.self.inside.passed) =
+    posts s (g.V.Views.workers c.self.inside.views) (g.V.Views.waiting c.self.inside.views) c.self.inside.passed c.merge.new.self (g.V.Views.waiting c.post.new.views) c.self.inside.passed g.V.Views.late k [] (c.in-Some.ends ∷ []) (g.V.Views.behind c.self.inside.views 0) (g.V.Views.behind c.post.new.views 0) (sym n) after called in
+    let B : ℕ → Type 0 = λ m. Posts g.V.Views.late k (board_of s (g.V.Views.workers c.self.inside.views) (g.V.Views.waiting c.self.inside.views) (g.V.Views.behind c.self.inside.views 0) c.self.inside.passed) (board_of c.merge.new.self m (g.V.Views.waiting c.post.new.views) (g.V.Views.behind c.post.new.views 0) c.self.inside.passed) in
+    let D : BoardShown → Type 0 = λ z. Posts g.V.Views.late k z (board_of c.merge.new.self (g.V.Views.workers c.post.new.views) (g.V.Views.waiting c.post.new.views) (g.V.Views.behind c.post.new.views 0) c.self.inside.passed) in
     subst D c.self.view_is (subst B (sym (c.post.ensures.workers ∙ c.reserve.ensures.workers)) one)
 
 pub returns-in-None-clause-refused : goal.returns-in-None-clause-refused

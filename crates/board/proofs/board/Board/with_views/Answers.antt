@@ -4,11 +4,10 @@ use Rattle.semantics.specs.Graph.{input_count}
 use Rattle.semantics.specs.PortArity.{IsTyped}
 use Rattle.graph.specs.Shown.{GraphValue, shown_graph}
 use Rattle.views.specs.Opening.{active_at_first}
-use Rattle.views.specs.Waiting.{IsSeenBy}
 use Rattle.board.specs.Fitting.{arity_in}
 use Rattle.board.specs.Shown.{Shown}
 use Rattle.board.proofs.Counted.{few_open}
-use Rattle.board.proofs.Counts.{have_new, most_new}
+use Rattle.board.proofs.Counts.{have_new}
 use Rattle.board.proofs.Lateness.{up_to_date}
 use Rattle.board.proofs.Opened.{kept_new, shows_new}
 use Rattle.board.proofs.board.Board.with_views.Goals as goal
@@ -34,7 +33,6 @@ invariant_of-result g c =
       closes = (let r = c.in_ok-reserve.ensures.room in let o = few_open s.inputs in let k = is.inputs ∙ ap (λ (x : GraphValue). input_count (shown_graph x)) (sym is.graph) in omega (arith, r, o, k, count));
       prompt = λ late w k l m. c.reserve.ensures.waiting w k ∙ c.requires.none w k (let e = c.reserve.ensures.workers in let v = c.requires.viewers in omega (arith, l, e, v));
       passed_are = have_new s;
-      passed_most = most_new (g.V.Views.graph c.reserve.new.self) (IsSeenBy (g.V.Views.content c.reserve.new.self) (g.V.Views.waiting c.reserve.new.self) (g.V.Views.workers c.reserve.new.self) 0) s is.unfed;
       passed_seen = λ e l. absurd (omega (arith, l));
     }
 

@@ -20,7 +20,7 @@ returns-then-not-gather-clause-gathers g c =
 
 pub invariant_of-self-2 : goal.invariant_of-self-2
 invariant_of-self-2 g c = (
-  after_gathering g.J.Naming.names g.J.Naming.graph c.self.inside.board c.self.inside.publisher.number c.self.invariant.0 c.law_count.ensures.one c.passed_count-known.result c.passed_count-known.ensures.value c.passed_count-known.ensures.seen c.gather.new.board c.publish.new.board
+  after_gathering g.J.Naming.names g.J.Naming.graph c.self.inside.board c.self.inside.publisher.number c.self.invariant.0 c.gather.new.board c.publish.new.board
       c.publish.new.publisher.number c.gather.ensures.tables c.gather.ensures.graph c.gather.ensures.passed c.publish.ensures.shown c.publish.ensures.applies.passed c.publish.ensures.publishes,
   c.publish.ensures.table ∙ c.self.invariant.1,
   tally_gathered g.J.Naming.first c.self.inside.board.shown c.self.inside.counters.tally c.self.invariant.2 c.args.worker c.gather.new.board.shown c.publish.new.board.shown c.gather.ensures.gathers c.publish.ensures.shown,
@@ -28,7 +28,7 @@ invariant_of-self-2 g c = (
 
 pub returns-clause-published : goal.returns-clause-published
 returns-clause-published g c =
-    (after_gathering g.J.Naming.names g.J.Naming.graph c.self.inside.board c.self.inside.publisher.number c.self.invariant.0 c.law_count.ensures.one c.passed_count-known.result c.passed_count-known.ensures.value c.passed_count-known.ensures.seen c.gather.new.board c.publish.new.board
+    (after_gathering g.J.Naming.names g.J.Naming.graph c.self.inside.board c.self.inside.publisher.number c.self.invariant.0 c.gather.new.board c.publish.new.board
     c.publish.new.publisher.number c.gather.ensures.tables c.gather.ensures.graph c.gather.ensures.passed c.publish.ensures.shown c.publish.ensures.applies.passed c.publish.ensures.publishes).published
 
 pub returns-clause-gathers : goal.returns-clause-gathers
