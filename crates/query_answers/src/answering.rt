@@ -62,20 +62,3 @@ pub trait Answering {
         requires { is_usable }
         ensures { (query taken : List ℕ) → holds intake query taken → IfOk result (λ answer. IsRun query taken answer.items) };
 }
-
-/// The answer of a query text to an input text, which is taken in one piece.
-pub fn answer_text<A: Answering>(
-    engine: &A,
-    alloc: Global,
-    workers: Workers,
-    query: &[u8],
-    input: &[u8],
-    texts: &mut Texts,
-) -> Result<Vec<u8>, Fault>
-    requires { A.is_usable }
-    ensures { IfOk result (λ answer. IsRun (read_part query.now) input.now answer.items) }
-{
-    let mut intake = engine.begin(alloc, workers, query, texts)?;
-    engine.take(alloc, &mut intake, input, texts)?;
-    engine.answer(alloc, intake, texts)
-}

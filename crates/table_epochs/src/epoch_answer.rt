@@ -3,6 +3,8 @@
 ghost use Rattle.std.specs.Prelude.{◌≡◌, ◌∷◌, false, IfOk, List, ℕ, OnOk, map, slice_set};
 ghost use Rattle.csv_cells.specs.Texts.{Grows, texts_of};
 ghost use Rattle.csv_epochs.specs.Epochs.{cell_of};
+ghost use Rattle.query_answers.specs.Runs.{IsRun, read_part};
+ghost use Rattle.tables.specs.Inputs.{IsInput};
 ghost use Rattle.tables.specs.Tables.{IsLate};
 ghost use Rattle.table_epochs.specs.Followed.{IsAnswered, IsValue, csv_file};
 ghost use Rattle.table_epochs.specs.Going.{IsFileUnder, Keeps, followed_by, reached_by};
@@ -11,11 +13,11 @@ use crate::numbering::numbered;
 use csv_cells::{Column, Dictionary, read_cell};
 use csv_epochs::Epoch;
 use diagnostics::{Fault, Texts};
-use query_answers::{Answering, answer_text};
+use query_answers::Answering;
 use std::alloc::{AllocError, Global};
 use table_commands::table_fault;
-use table_queries::{Job, RunFault};
-use tables::{EncodeRefusal, TableRefusal, decode, encode_texts};
+use table_queries::{EngineSink, Job, RunFault};
+use tables::{EncodeFault, EncodeRefusal, FileFault, MemoryFiles, TableRefusal, decode, encode};
 
 /// What an answer is called where it is refused.
 const ANSWER: &str = "answer";
@@ -123,21 +125,67 @@ fn late_fault<'a>(alloc: Global, following: &Following<'_, 'a>, lines: Lines) ->
     )
 }
 
-/// The CSV file of the answer to files, which hold one epoch, under its number.
-fn file_of<'a, A: Answering>(
+/// The answer to the files, which hold one epoch. The engine takes their rows as numbers.
+fn answer_of_files<'a, A: Answering>(
     engine: &A,
+    alloc: Global,
+    following: &mut Following<'_, 'a>,
+    lines: Lines,
+    texts: &mut Texts,
+) -> Result<Vec<u8>, RunFault<'a>>
+    requires { A.is_usable }
+    ensures answered { IfOk result (λ answer. (input : List ℕ)
+        × IsInput following.old.job.schema.now (map (λ v. v.items) following.old.files.items) (texts_of following.new.dictionary) input
+        × IsRun (read_part following.old.job.query.now) input answer.items) }
+    ensures grows { OnOk result (Grows (texts_of following.old.dictionary) (texts_of following.new.dictionary)) }
+    ensures rest { OnOk result (following.new ≡ record following.old { dictionary = following.new.dictionary }) }
+{
+    let job = following.job;
+    let intake = engine.begin(alloc, job.workers, job.query, texts)?;
+    let mut input = EngineSink::new(engine, alloc, intake);
+    let files = MemoryFiles {
+        texts: following.files.as_slice(),
+    };
+    let dictionary = &mut following.dictionary;
+    match encode(alloc, job.schema, dictionary, &files, &mut input) {
+        Ok(()) => Ok(input.answer(texts)?),
+        Err(
+            EncodeFault {
+                file,
+                fault: FileFault::Refused(refusal),
+            },
+        ) => {
+            let place = following.stream.place;
+            let refused = EncodeRefusal { file, refusal };
+            Err(files_fault(alloc, &job, place, lines, refused))
+        }
+        Err(
+            EncodeFault {
+                fault: FileFault::Stopped,
+                ..
+            },
+        ) => Err(RunFault::Run(input.into_fault(texts))),
+        Err(
+            EncodeFault {
+                fault: FileFault::Read | FileFault::Count,
+                ..
+            },
+        ) => Err(RunFault::Run(Fault::NoMemory)),
+    }
+}
+
+/// The CSV file of an answer to one epoch, under its number.
+fn file_of<'a>(
     alloc: Global,
     job: &Job<'_, 'a>,
     number: u64,
     dictionary: &Dictionary,
-    input: &[u8],
-    texts: &mut Texts,
+    answer: &[u8],
 ) -> Result<Vec<u8>, RunFault<'a>>
-    requires { A.is_usable }
-    ensures { IfOk result (λ file. IsFileUnder job.now.table.now job.now.query.now number (texts_of dictionary.now) input.now file.items) }
+    ensures { (input : List ℕ) → IsRun (read_part job.now.query.now) input answer.now
+        → IfOk result (λ file. IsFileUnder job.now.table.now job.now.query.now number (texts_of dictionary.now) input file.items) }
 {
-    let answer = answer_text(engine, alloc, job.workers, job.query, input, texts)?;
-    let text = numbered(alloc, number, answer.as_slice())?;
+    let text = numbered(alloc, number, answer)?;
     match decode(alloc, job.table, true, dictionary, text.as_slice()) {
         Ok(file) => Ok(file),
         Err(refusal) => Err(RunFault::Tables(table_fault(alloc, ANSWER, job.table, refusal))),
@@ -187,20 +235,14 @@ pub fn answer_epoch<'a, A: Answering>(
     }
     let place = following.stream.place;
     put_text(&mut following.files, place, epoch.text);
-    let files = following.files.as_slice();
-    let input = match encode_texts(alloc, job.schema, &mut following.dictionary, files) {
-        Ok(input) => input,
-        Err(refused) => return Err(files_fault(alloc, &job, place, lines, refused)),
-    };
+    let answer = answer_of_files(engine, alloc, following, lines, texts)?;
     following.count = count;
     following.last = value;
     file_of(
-        engine,
         alloc,
         &job,
         number,
         &following.dictionary,
-        input.as_slice(),
-        texts,
+        answer.as_slice(),
     )
 }
