@@ -40,8 +40,9 @@
 //! | `abandon`, `abandon_done` | the holder of the event | drops the event, and the board stops | never |
 //! | `catch_up` | anyone | a worker's view takes in all that waits for it | never; does nothing if nothing waits |
 //! | `apply` | anyone | it takes in one batch | the same |
+//! | `passed_count` | anyone | counts the epochs that have passed, and keeps the number | never |
 //!
-//! `look`, `emitted`, `fed`, `passed`, `passed_count` and the other calls read, and anyone may make them.
+//! `look`, `emitted`, `fed`, `passed`, `known_passed` and the other calls read, and anyone may make them.
 //!
 //! A stopped board still accepts commits. An abandoned event counts as active for good, so the epochs that it could touch never pass.
 //! Only `feed`, `feed_cut`, `seal`, `merge`, `gather`, `commit` and `look` take memory, and they take it before anything changes.

@@ -1,5 +1,4 @@
 use Rattle.std.proofs.Common.{◌≡◌, subst, sym}
-use Rattle.std.proofs.Common.{ℕ}
 use Rattle.board.specs.Promises.{CountsPassed}
 use Rattle.workers.specs.Held.{HeldShown}
 use Rattle.workers.proofs.held.Held.passed_count.Goals as goal
