@@ -356,6 +356,62 @@ fn answer_alone<'a, Q: Sources<'a>, S: Sources<'a>, W: Write>(
     }
 }
 
+/// Does what the options ask for, if one thread makes all calls on the engine, or there is none. None as `answer_alone`.
+fn answer_in_one_thread<'a, R: Threads + Sync, Q: Sources<'a>, S: Sources<'a>, W: Write>(
+    rt: &R,
+    alloc: Global,
+    queries: &Q,
+    sources: &S,
+    asked: Options<'a>,
+    out: &mut Watched<W>,
+    kept: &mut Kept<'a>,
+) -> Option<Result<(), Fault>>
+    ensures done { IfSome result (EndsOn (Q.content queries.now) (S.content sources.now) asked.entry (W.contents (inner_of out.old)) (W.contents (inner_of out.new))) }
+    ensures read { IfSome result (EndsOnRead (Q.content queries.now) kept.new.transcripts asked.entry (W.contents (inner_of out.old)) (W.contents (inner_of out.new))) }
+    ensures none { IfNone result (W.contents (inner_of out.new) ≡ W.contents (inner_of out.old)) }
+{
+    match asked {
+        Options::Follow {
+            query,
+            input,
+            workers,
+            first,
+            end_mark,
+            ..
+        } => {
+            let task = Task {
+                query: place_of(queries, query),
+                input,
+                end_mark,
+                workers,
+            };
+            Some(follow_named(rt, alloc, sources, task, first, out, kept))
+        }
+        Options::Replay {
+            query,
+            schedule,
+            workers,
+            views,
+            ..
+        } => {
+            let task = Task {
+                query: place_of(queries, query),
+                input: schedule,
+                end_mark: false,
+                workers,
+            };
+            let kind = view_kind(views);
+            Some(replay_named(alloc, sources, task, kind, out, kept))
+        }
+        Options::Run { .. }
+        | Options::Check { .. }
+        | Options::Graph { .. }
+        | Options::Format { .. }
+        | Options::Sql { .. }
+        | Options::Explain { .. } => answer_alone(alloc, queries, sources, asked, out, kept),
+    }
+}
+
 /// Does what the options ask for. None if no refusal has the number that is to be explained; then nothing is written. Drops the watcher unless
 /// `--watch` was given to a run.
 fn answer_asked<
@@ -400,44 +456,14 @@ fn answer_asked<
             };
             Some(run_named(rt, alloc, sources, task, stats, streams, kept))
         }
-        Options::Follow {
-            query,
-            input,
-            workers,
-            first,
-            end_mark,
-            ..
-        } => {
-            let task = Task {
-                query: place_of(queries, query),
-                input,
-                end_mark,
-                workers,
-            };
-            Some(follow_named(rt, alloc, sources, task, first, &mut streams.out, kept))
-        }
-        Options::Replay {
-            query,
-            schedule,
-            workers,
-            views,
-            ..
-        } => {
-            let task = Task {
-                query: place_of(queries, query),
-                input: schedule,
-                end_mark: false,
-                workers,
-            };
-            let kind = view_kind(views);
-            Some(replay_named(alloc, sources, task, kind, &mut streams.out, kept))
-        }
-        Options::Check { .. }
+        Options::Follow { .. }
+        | Options::Replay { .. }
+        | Options::Check { .. }
         | Options::Graph { .. }
         | Options::Format { .. }
         | Options::Sql { .. }
         | Options::Explain { .. } => {
-            answer_alone(alloc, queries, sources, asked, &mut streams.out, kept)
+            answer_in_one_thread(rt, alloc, queries, sources, asked, &mut streams.out, kept)
         }
     }
 }

@@ -205,25 +205,35 @@ fn shows<V: Views>(report: &Report<V>, worked: u64, rows: &[(Question, u64)]) ->
     true
 }
 
+/// What an engine publishes, and who observes it.
+#[derive(Drop)]
+struct Observed<'a> {
+    publisher: Publisher,
+    mark: &'a Mark,
+    seat: Seat,
+}
+
 /// Whether a scenario goes as it says; None if memory was refused before its work.
 fn goes<J: Naming + Send + Sync, V: Views + Send, G: Gate + Sync, R: Threads + Wait + Sync>(
     rt: &R,
     alloc: Global,
     board: Board<V>,
-    publisher: Publisher,
-    mark: &Mark,
-    seat: Seat,
+    observed: Observed<'_>,
     gate: &G,
     scenario: Scenario,
 ) -> Option<bool>
     requires names { tables board.shown ≡ J.names }
     requires graph { board.shown.graph ≡ J.graph }
-    requires mark { (publisher.table ≡ J.mark) × (mark.now ≡ J.mark) }
+    requires mark { (observed.publisher.table ≡ J.mark) × (observed.mark.now ≡ J.mark) }
     requires unwatched { J.received ≡ None }
-    requires fresh { publisher.number ≡ 0 }
-    requires seat { seat.table ≡ J.mark }
+    requires fresh { observed.publisher.number ≡ 0 }
+    requires seat { observed.seat.table ≡ J.mark }
 {
-    let mut seat = seat;
+    let Observed {
+        publisher,
+        mark,
+        mut seat,
+    } = observed;
     let Ok(engine) = Engine::<J, V>::new(alloc, board, publisher) else {
         return None;
     };
@@ -239,16 +249,14 @@ fn goes_with<V: Views + Send, G: Gate + Sync, R: Threads + Wait + Sync>(
     rt: &R,
     alloc: Global,
     board: Board<V>,
-    publisher: Publisher,
-    mark: &Mark,
-    seat: Seat,
+    observed: Observed<'_>,
     gate: &G,
     scenario: Scenario,
 ) -> Option<bool>
-    requires publisher { (publisher.table ≡ mark.now) × (publisher.number ≡ 0) }
-    requires seat { seat.table ≡ mark.now }
+    requires publisher { (observed.publisher.table ≡ observed.mark.now) × (observed.publisher.number ≡ 0) }
+    requires seat { observed.seat.table ≡ observed.mark.now }
 {
-    goes::<Brand, V, G, R>(rt, alloc, board, publisher, mark, seat, gate, scenario)
+    goes::<Brand, V, G, R>(rt, alloc, board, observed, gate, scenario)
 }
 
 /// Whether a scenario goes as it says on this board; None if memory was refused before its work.
@@ -263,6 +271,10 @@ pub fn play<V: Views + Send, G: Gate + Sync, R: Threads + Wait + Sync>(
     let Ok((mark, publisher, mut seats)) = Mark::new(alloc, 1) else {
         return None;
     };
-    let seat = seats.pop()?;
-    goes_with(rt, alloc, board, publisher, &mark, seat, gate, scenario)
+    let observed = Observed {
+        publisher,
+        mark: &mark,
+        seat: seats.pop()?,
+    };
+    goes_with(rt, alloc, board, observed, gate, scenario)
 }
