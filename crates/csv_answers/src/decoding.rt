@@ -2,10 +2,10 @@
 
 ghost use Rattle.csv_answers.specs.declared.refusal.Fault.TheVariants as fault;
 ghost use Rattle.csv_answers.specs.declared.refusal.TableRefusal.TheVariants as refusal;
-ghost use Rattle.std.specs.Prelude.{◌≡◌, ◌≢◌, ◌<◌, ◌++◌, List, Bool, FitsSigned, IfErr, IfNone, IfOk, IfSome, OnOk, codes, false, get_or, length, true, map, option_map, pos, ℕ, ℤ};
+ghost use Rattle.std.specs.Prelude.{◌≡◌, ◌≢◌, ◌<◌, ◌↔◌, ◌++◌, IsTrue, List, Bool, FitsSigned, IfErr, IfNone, IfOk, IfSome, OnOk, codes, false, get_or, length, true, map, option_map, pos, ℕ, ℤ};
 ghost use Rattle.std.specs.Int.{w64};
 ghost use Rattle.csv_cells.specs.Texts.{texts_of};
-ghost use Rattle.csv_answers.specs.Answers.{Adds, AreDecoded, Begins, HasCells, IsDecoded, IsEpoch, IsFirstFault, IsOfRecord, IsOutput, IsRefusedAnswer, Where, label_for, where_of, words_text};
+ghost use Rattle.csv_answers.specs.Answers.{Adds, AreDecoded, Begins, HasCells, IsDecoded, IsEpoch, IsFirstFault, IsOfRecord, IsOutput, IsRefusedAnswer, IsWhole, MayBegin, Where, label_for, where_of, words_text};
 ghost use Rattle.schema.specs.declared.tables.Table.{Table};
 ghost use Rattle.csv_answers.specs.Files.{IsFile};
 
@@ -67,6 +67,26 @@ struct Place<'a> {
     epoch: &'a [u8],
     /// Whether the lines are of the output that is asked for.
     is_asked: bool,
+    /// Whether a line of the epoch has named an output.
+    is_named: bool,
+    /// Whether the epoch has the output that is asked for.
+    is_found: bool,
+}
+
+impl Place<'_> {
+    /// Whether the epoch, if one has begun, has the output that is asked for.
+    fn is_whole(&self) -> bool
+        ensures { IsTrue result ↔ IsWhole (where_of self.now) }
+    {
+        self.epoch.is_empty() || self.is_found
+    }
+
+    /// Whether an epoch may begin: the first, or another after a whole one, where epochs are told apart.
+    fn may_begin(&self, with_epochs: bool) -> bool
+        ensures { IsTrue result ↔ MayBegin with_epochs (where_of self.now) }
+    {
+        self.epoch.is_empty() || self.is_found && with_epochs
+    }
 }
 
 /// What comes after a word, if a line begins with it.
@@ -97,24 +117,67 @@ fn output_of<'a>(line: &'a [u8]) -> Option<&'a [u8]>
     after(line, b"output ")
 }
 
-/// A line that begins an epoch or an output, and whether it is one.
-fn take_head<'a>(place: &mut Place<'a>, table: &Table, line: &'a [u8]) -> bool
-    ensures head { result ≡ true → Begins table.now.name.items line.now (where_of place.old) (where_of place.new) }
-    ensures other { result ≡ false → IsOfRecord line.now }
-    ensures same { result ≡ false → where_of place.new ≡ where_of place.old }
+/// Begins an epoch of that number, which is of the only output `out` unless a line names one. False if none may begin.
+fn begin_epoch<'a>(
+    place: &mut Place<'a>,
+    table: &Table,
+    with_epochs: bool,
+    line: &'a [u8],
+    epoch: &'a [u8],
+) -> bool
+    requires { IsEpoch line.now epoch.now }
+    ensures begins { result ≡ true → Begins table.now.name.items with_epochs line.now (where_of place.old) (where_of place.new) }
+    ensures refused { result ≡ false → (next : Where) → ¬ Begins table.now.name.items with_epochs line.now (where_of place.old) next }
+{
+    if !place.may_begin(with_epochs) {
+        return false;
+    }
+    place.epoch = epoch;
+    place.is_asked = table.name.as_slice() == b"out".as_slice();
+    place.is_named = false;
+    place.is_found = place.is_asked;
+    true
+}
+
+/// Begins the output of that name. False before the first epoch.
+fn begin_output<'a>(
+    place: &mut Place<'a>,
+    table: &Table,
+    with_epochs: bool,
+    line: &[u8],
+    name: &[u8],
+) -> bool
+    requires { IsOutput line.now name.now }
+    ensures begins { result ≡ true → Begins table.now.name.items with_epochs line.now (where_of place.old) (where_of place.new) }
+    ensures refused { result ≡ false → (next : Where) → ¬ Begins table.now.name.items with_epochs line.now (where_of place.old) next }
+{
+    if place.epoch.is_empty() {
+        return false;
+    }
+    place.is_asked = name == table.name.as_slice();
+    place.is_found = place.is_asked || place.is_named && place.is_found;
+    place.is_named = true;
+    true
+}
+
+/// Takes a line that begins an epoch or an output, and says whether it may stand there; `None` if it begins neither.
+fn take_head<'a>(
+    place: &mut Place<'a>,
+    table: &Table,
+    with_epochs: bool,
+    line: &'a [u8],
+) -> Option<bool>
+    ensures begins { IfSome result (λ b. b ≡ true → Begins table.now.name.items with_epochs line.now (where_of place.old) (where_of place.new)) }
+    ensures refused { IfSome result (λ b. b ≡ false → (next : Where) → ¬ Begins table.now.name.items with_epochs line.now (where_of place.old) next) }
+    ensures head { IfSome result (λ _. ¬ IsOfRecord line.now) }
+    ensures other { IfNone result (IsOfRecord line.now) }
+    ensures same { IfNone result (where_of place.new ≡ where_of place.old) }
 {
     match epoch_of(line) {
-        Some(epoch) => {
-            place.epoch = epoch;
-            place.is_asked = table.name.as_slice() == b"out".as_slice();
-            true
-        }
+        Some(epoch) => Some(begin_epoch(place, table, with_epochs, line, epoch)),
         None => match output_of(line) {
-            Some(name) => {
-                place.is_asked = name == table.name.as_slice();
-                true
-            }
-            None => false,
+            Some(name) => Some(begin_output(place, table, with_epochs, line, name)),
+            None => None,
         },
     }
 }
@@ -140,8 +203,11 @@ fn write_line<'a>(
         → (more : List (List (List ℕ))) × Adds table.now with_epochs (texts_of dictionary.now) (where_of place.old) line.now more (where_of place.new) × IsFile writer.new (rows ++ more)) }
     ensures none { IfOk result (λ found. found ≡ false → (more : List (List (List ℕ))) (next : Where) → ¬ Adds table.now with_epochs (texts_of dictionary.now) (where_of place.old) line.now more next) }
 {
-    if take_head(place, table, line) {
-        return Ok(true);
+    if let Some(begins) = take_head(place, table, with_epochs, line) {
+        return Ok(begins);
+    }
+    if place.epoch.is_empty() {
+        return Ok(false);
     }
     if !place.is_asked {
         return Ok(true);
@@ -179,6 +245,8 @@ fn write_lines(
     let mut place = Place {
         epoch: b"",
         is_asked: false,
+        is_named: false,
+        is_found: false,
     };
     let mut line = 0u64;
     let mut begin = 0;
@@ -203,11 +271,15 @@ fn write_lines(
     if begin < answer.len() {
         return Err(refused(line + 1));
     }
+    if !place.is_whole() {
+        return Err(refused(line + 1));
+    }
     Ok(())
 }
 
 /// The CSV file of an output, by the text of an answer: a header row, and the records in the answer's order. With epochs the first column is the epoch's
-/// number. A refusal is of the first line that isn't one of the answer, has a number that stands for no cell, or doesn't end.
+/// number. A refusal is of the first line that isn't one of the answer, has a number that stands for no cell, or doesn't end; of the line after an epoch
+/// that lacks the output; and, without epochs, of a second one.
 pub fn decode(
     alloc: Global,
     table: &Table,

@@ -3,6 +3,8 @@
 
 mod check_line;
 mod run_line;
+mod schema_line;
 
 pub use check_line::{TableCheck, read_check_words};
 pub use run_line::{TableRun, read_run_words};
+pub use schema_line::names_option;

@@ -7,7 +7,7 @@ pub use Rattle.query_answers.specs.Runs.{Known}
 use Rattle.query_kinds.specs.Listed.{IsListed}
 use Rattle.schema.specs.declared.tables.Schema.{Schema}
 use Rattle.schema.specs.declared.tables.Table.{Table}
-use Rattle.table_commands.specs.Read.{AreNamed, IsDictionaryOf, IsInputOf, IsKnownAs, IsOpenedAs, IsOutput, IsReadSchema}
+use Rattle.table_commands.specs.Read.{AreNamed, BeginsFor, IsDictionaryOf, IsInputOf, IsKnownAs, IsOutput, IsReadSchema}
 use Rattle.table_commands.specs.Streamed.{StaysUnmarked}
 use Rattle.table_words.specs.declared.line.Asked.{Asked}
 use Rattle.table_words.specs.declared.line.Asked.TheVariants.{Encode, Decode, Kinds}
@@ -15,9 +15,9 @@ use Rattle.tables.specs.Answers.{IsDecoded}
 use Rattle.tables.specs.Inputs.{AreNumbered, has_own}
 
 -- the texts that a command which may add to them begins with: those of the dictionary that is named, or none
-abbrev pub BeginsWith : Known → (dictionary : Option (List ℕ)) → (texts : List (List ℕ)) → Type 0
-BeginsWith known None texts = texts ≡ []
-BeginsWith known (Some name) texts = IsOpenedAs true (known name) texts
+abbrev pub BeginsWith : Known → Schema → (dictionary : Option (List ℕ)) → (texts : List (List ℕ)) → Type 0
+BeginsWith known schema None texts = texts ≡ []
+BeginsWith known schema (Some name) texts = BeginsFor (known name) schema.constants.items texts
 
 -- an input text, and behind it the end mark if it is to have one
 abbrev pub marked : (has_mark : Bool) → (text : List ℕ) → List ℕ
@@ -29,7 +29,7 @@ pub record IsEncodedBy (known : Known) (schema : Schema) (paths : List (List ℕ
   pub old : List (List ℕ)
   pub new : List (List ℕ)
   pub text : List ℕ
-  pub begins : BeginsWith known dictionary old
+  pub begins : BeginsWith known schema dictionary old
   pub numbered : AreNumbered schema.constants.items old new
   pub encoded : IsInputOf known schema paths new text
   pub ended : out ≡ marked has_mark text

@@ -2,7 +2,7 @@
 use Rattle.std.specs.Prelude.{◌≡◌, ℕ, List, [], ◌∷◌, Contains, Option, Some, None}
 use Rattle.schema.specs.declared.tables.Schema.{Schema}
 use Rattle.schema.specs.declared.tables.Table.{Table}
-pub use Rattle.table_files.specs.Read.{AreNamed, AreTexts, IsDictionaryOf, IsKnownAs, IsOpenedAs, IsReadSchema}
+pub use Rattle.table_files.specs.Read.{AreNamed, AreTexts, BeginsFor, IsDictionaryOf, IsKnownAs, IsOpenedAs, IsReadSchema}
 use Rattle.tables.specs.Inputs.{IsInput}
 
 -- the output that is asked for: the one of that name, or the only one

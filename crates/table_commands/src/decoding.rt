@@ -14,8 +14,8 @@ use schema::{Schema, Table};
 use std::alloc::Global;
 use std::io::Write;
 use table_files::{
-    Fault, WordFault, dictionary_of, needs_dictionary, read_file, schema_of, table_fault,
-    write_text,
+    Fault, WordFault, dictionary_of, is_input_twice, needs_dictionary, read_file, schema_of,
+    table_fault, write_text,
 };
 use table_words::Decoding;
 use tables::{decode, has_epochs};
@@ -96,7 +96,8 @@ fn decoded<'a, S: Sources<'a>>(
         × IsDecodedBy (S.content sources.now) schema asked.entry.answer.now (option_map (λ s. s.now) asked.entry.dictionary)
         (option_map (λ s. s.now) asked.entry.output) file.items) }
 {
-    if asked.schema == "-" && asked.answer == "-" {
+    let dictionary = asked.dictionary.unwrap_or("");
+    if is_input_twice(&[asked.schema, asked.answer, dictionary], &[]) {
         return Err(Fault::Words(WordFault::InputTwice));
     }
     let schema = schema_of(alloc, sources, asked.schema)?;

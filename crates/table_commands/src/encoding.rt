@@ -16,7 +16,7 @@ use schema::Schema;
 use std::alloc::Global;
 use std::io::Write;
 use table_files::{
-    Drafts, Fault, SourceFiles, WordFault, begin_dictionary, dictionary_of, grown_text,
+    Drafts, Fault, SourceFiles, WordFault, begin_dictionary, encoding_dictionary, grown_text,
     is_input_twice, needs_dictionary, paths_of, schema_of, table_fault, write_text, write_with,
 };
 use tables::{EncodeFault, FileFault, LineSink, encode};
@@ -184,7 +184,7 @@ fn begin_with<'a, S: Sources<'a>, W: Write>(
     ensures fault { IfErr result (λ fault. IsWriteFault fault ⊎ StaysUnmarked files.entry.end_mark (W.contents (inner_of out.old)) (W.contents (inner_of out.new))) }
     ensures quiet { OnOk result (StaysUnmarked files.entry.end_mark (W.contents (inner_of out.old)) (W.contents (inner_of out.new))) }
 {
-    let mut dictionary = dictionary_of(alloc, sources, name, true)?;
+    let mut dictionary = encoding_dictionary(alloc, sources, files.schema, name)?;
     let count = dictionary.len();
     let rest = begin_input(alloc, sources, files, &mut dictionary, out)?;
     let kept = grown_text(alloc, &dictionary, count)?;
@@ -263,7 +263,7 @@ fn encode_by<'a, S: Sources<'a>, D: Drafts, W: Write>(
 }
 
 /// Writes the input text of the files, and then keeps the dictionary. With an end mark lines are written as they are read; else the text is written when it is
-/// whole. So at a fault nothing is written, or a beginning without its end mark, unless the writer or the dictionary's file failed.
+/// whole. So at a fault nothing is written, or a text that doesn't end with the mark, unless the writer or the dictionary's file failed.
 pub fn encode_files<'a, S: Sources<'a>, D: Drafts, W: Write>(
     alloc: Global,
     sources: &S,

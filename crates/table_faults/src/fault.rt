@@ -1,9 +1,10 @@
-//! What goes wrong in `encode`, `decode` and `kinds`, its status, and its one line.
+//! What goes wrong in the commands for CSV files, its status, and its one line.
 
 ghost use Rattle.std.specs.Prelude.{◌≡◌, ◌<◌};
 ghost use Rattle.table_faults.specs.Written.{IsWriteFault};
 
 use csv_cells::{Column, Empty, Kind};
+use diagnostics::Plain;
 use record_core::Span;
 use refusals::explanation_of;
 use schema::{SchemaRefusal, Table};
@@ -50,6 +51,10 @@ pub enum WordFault<'a> {
     Files,
     /// There are texts, and no dictionary is named.
     NoDictionary,
+    /// Standard input is named as the dictionary, which is to be written.
+    NoDictionaryFile,
+    /// A constant of the schema has another number in the dictionary of that path than its place.
+    OtherNumbers(&'a str),
     /// The schema has no such output, or several and none is named.
     NoOutput,
     /// Two of the texts are standard input.
@@ -158,16 +163,26 @@ fn told(fault: TableFault) -> (u8, &'static str) {
 /// Writes what is wrong with words.
 fn write_words<W: Write>(fault: WordFault<'_>, out: &mut W) -> io::Result<()> {
     let phrase = match fault {
+        WordFault::OtherNumbers(path) => {
+            let path = Plain(path);
+            return writeln!(
+                out,
+                "error: in {path} the schema's constants have other numbers: a dictionary for this schema begins with them"
+            );
+        }
         WordFault::NoTable(word) => {
             return writeln!(
                 out,
-                "error: '{word}' is no input of the schema, '=' and its file"
+                "error: '{}' is no input of the schema, '=' and its file",
+                Plain(word)
             );
         }
         WordFault::Files => "each input of the schema has one NAME=FILE",
         WordFault::NoDictionary => {
             "the schema has texts: their numbers are kept in --dictionary FILE"
         }
+        WordFault::NoDictionaryFile =>
+            "--dictionary names a file, which can't be '-', standard input",
         WordFault::NoOutput => "say which output of the schema it is by --output NAME",
         WordFault::InputTwice => "only one of the files can be '-', which is standard input",
     };
@@ -224,6 +239,7 @@ fn write_table<W: Write>(
     out: &mut W,
 ) -> io::Result<()> {
     let (code, phrase) = told(fault);
+    let path = Plain(path);
     write!(out, "{path} refused {code} at line {line}")?;
     match detail {
         Detail::None => writeln!(out, ": {phrase}"),
@@ -262,15 +278,16 @@ impl Fault<'_> {
     pub fn write_line<W: Write>(&self, out: &mut W) -> io::Result<()> {
         match self {
             Fault::NoMemory => writeln!(out, "out of memory"),
-            Fault::Read(path) => writeln!(out, "cannot read {path}"),
+            Fault::Read(path) => writeln!(out, "cannot read {}", Plain(path)),
             Fault::Write => writeln!(out, "cannot write"),
             Fault::Dictionary(path, true) => {
+                let path = Plain(path);
                 writeln!(
                     out,
                     "cannot write {path}: another command writes it, or {path}.new is left of one that was ended"
                 )
             }
-            Fault::Dictionary(path, false) => writeln!(out, "cannot write {path}"),
+            Fault::Dictionary(path, false) => writeln!(out, "cannot write {}", Plain(path)),
             Fault::Words(fault) => write_words(*fault, out),
             Fault::Schema(fault, line) => {
                 let code = fault.code();

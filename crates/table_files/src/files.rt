@@ -3,7 +3,7 @@
 ghost use Rattle.std.specs.Prelude.{◌≡◌, ◌++◌, ◌∷◌, Contains, IfOk, IfSome, map};
 ghost use Rattle.collector.specs.Watching.{inner_of};
 ghost use Rattle.csv_cells.specs.Texts.{texts_of};
-ghost use Rattle.table_files.specs.Read.{AreNamed, IsKnownAs, IsOpenedAs, IsReadSchema};
+ghost use Rattle.table_files.specs.Read.{AreNamed, BeginsFor, IsKnownAs, IsOpenedAs, IsReadSchema};
 ghost use Rattle.tables.specs.Tables.{IsReadDictionary};
 
 use collector::{ReadFault, Sources, Watched, open_named, read_all};
@@ -12,7 +12,7 @@ use schema::{Schema, Table, read_schema};
 use std::alloc::Global;
 use std::io::{ErrorKind, Read};
 use table_faults::{Fault, WordFault, dictionary_fault, schema_fault};
-use tables::read_dictionary;
+use tables::{begins_with_constants, read_dictionary};
 
 /// All of a file.
 pub fn read_file<'a, S: Sources<'a>>(
@@ -114,6 +114,24 @@ pub fn dictionary_of<'a, S: Sources<'a>>(
             }
             Err(Fault::Read(path))
         }
+    }
+}
+
+/// The dictionary of a file, by which the files of a schema are encoded; one that isn't there is empty. Refused where a constant of the schema would have
+/// another number in it than its place.
+pub fn encoding_dictionary<'a, S: Sources<'a>>(
+    alloc: Global,
+    sources: &S,
+    schema: &Schema,
+    path: &'a str,
+) -> Result<Dictionary, Fault<'a>>
+    ensures { IfOk result (λ dictionary. BeginsFor (S.content sources.now path.now) schema.now.constants.items (texts_of dictionary)) }
+{
+    let dictionary = dictionary_of(alloc, sources, path, true)?;
+    if begins_with_constants(&schema.constants, &dictionary) {
+        Ok(dictionary)
+    } else {
+        Err(Fault::Words(WordFault::OtherNumbers(path)))
     }
 }
 

@@ -10,17 +10,20 @@ use collector::{Watched, put};
 use csv_cells::Dictionary;
 use std::alloc::Global;
 use std::io::{ErrorKind, Write};
-use table_faults::Fault;
+use table_faults::{Fault, WordFault};
 use tables::dictionary_text;
 
-/// Begins to write the dictionary of that name, which no other command writes meanwhile.
+/// Begins to write the dictionary of that name, which no other command writes meanwhile. Standard input can't be one.
 pub fn begin_dictionary<'a, D: Drafts>(drafts: &D, name: &'a str) -> Result<D::Draft, Fault<'a>> {
+    if name == "-" {
+        return Err(Fault::Words(WordFault::NoDictionaryFile));
+    }
     match drafts.begin(name) {
         Ok(draft) => Ok(draft),
-        Err(error) => {
-            let is_there = error.kind() == ErrorKind::AlreadyExists;
-            Err(Fault::Dictionary(name, is_there))
-        }
+        Err(error) => Err(match error.kind() {
+            ErrorKind::OutOfMemory => Fault::NoMemory,
+            kind => Fault::Dictionary(name, kind == ErrorKind::AlreadyExists),
+        }),
     }
 }
 

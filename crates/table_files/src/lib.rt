@@ -8,7 +8,10 @@ mod source_files;
 mod writing;
 
 pub use drafts::{DiskDrafts, Draft, Drafts};
-pub use files::{dictionary_of, is_input_twice, needs_dictionary, paths_of, read_file, schema_of};
+pub use files::{
+    dictionary_of, encoding_dictionary, is_input_twice, needs_dictionary, paths_of, read_file,
+    schema_of,
+};
 pub use keeping::{begin_dictionary, grown_text, keep_dictionary, write_with};
 pub use source_files::SourceFiles;
 pub use table_faults::{Detail, Fault, WordFault, table_fault};

@@ -15,7 +15,7 @@ use Rattle.table_epochs.proofs.Going.{all-part, known-begins}
 
 pub file-followed : (known : Known) (schema : Schema) (table : Table) (paths : List (List ℕ)) (query : List ℕ) (dictionary : Option (List ℕ))
     (begin : List (List ℕ)) (fl : Following) (old new : Option (List ℕ))
-    → BeginsWith known dictionary begin → IsReady known schema table paths query begin fl
+    → BeginsWith known schema dictionary begin → IsReady known schema table paths query begin fl
     → FollowsFrom (known (get_or (map (λ s. s.now) fl.job.paths.now) fl.stream.place [])) (followed_by fl) (texts_of fl.dictionary) old new
     → FollowsFile known schema table paths query dictionary old new
 file-followed known schema table paths query dictionary begin fl old new begins ready w = (

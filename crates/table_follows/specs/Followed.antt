@@ -47,7 +47,7 @@ FollowsFrom known f begin old new = (start : Reached) × AreNumbered f.schema.co
 abbrev pub FollowsFile : Known → Schema → Table → (paths : List (List ℕ)) → (query : List ℕ) → (dictionary : Option (List ℕ))
     → (old new : Option (List ℕ)) → Type 0
 FollowsFile known schema table paths query dictionary old new =
-    (begin : List (List ℕ)) × BeginsWith known dictionary begin
+    (begin : List (List ℕ)) × BeginsWith known schema dictionary begin
     × (f : Followed) × IsFollowed known schema table paths query f × FollowsFrom (known (get_or paths f.place [])) f begin old new
 
 -- nothing was written, or a beginning of it was followed

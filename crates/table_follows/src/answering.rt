@@ -11,22 +11,21 @@ use crate::files::follow_tables;
 use collector::{Sources, Watched};
 use diagnostics::Texts;
 use query_answers::Answering;
-use schema_words::read_run_words;
+use schema_words::{names_option, read_run_words};
 use std::alloc::Global;
 use std::io::Write;
 use table_commands::{Drafts, refuse, report};
 use table_queries::RunFault;
 use table_runs::report_run;
 
-/// Whether a line, whose first word is the program's own, is one of `follow` with the option `--schema`.
+/// Whether a line, whose first word is the program's own, is one of `follow` with the option `--schema`, or with one that needs it.
 pub fn is_table_follow(words: &[&str]) -> bool
     ensures { result ≡ true → get_or (map (λ s. s.now) words.now) 1 [] ≡ codes "follow" }
 {
     match words {
-        [_, first, others @ ..] if *first == "follow" => others
-            .iter()
-            .take_while(|word| **word != "--")
-            .any(|word| *word == "--schema" || word.starts_with("--schema=")),
+        [_, first, others @ ..] if *first == "follow" => {
+            names_option(others, &["--schema", "--dictionary", "--output"])
+        }
         _ => false,
     }
 }

@@ -19,7 +19,7 @@ use schema::Table;
 use schema_words::TableRun;
 use std::alloc::Global;
 use std::io::Write;
-use table_commands::{Drafts, begin_dictionary, dictionary_of, grown_text, keep_dictionary};
+use table_commands::{Drafts, begin_dictionary, encoding_dictionary, grown_text, keep_dictionary};
 use table_epochs::{Following, Stream, check_files, follow_end, follow_text};
 use table_queries::{Job, RunFault, asked_output, begin_run};
 use table_runs::run_job;
@@ -137,17 +137,14 @@ fn follow_without<'a, A: Answering, S: Sources<'a>, W: Write>(
     follow_file(engine, alloc, sources, &mut following, texts, out)
 }
 
-/// The text of the dictionary's file of that name, if it has more than that many texts.
+/// The text of the dictionary's file, if it has more than that many texts.
 fn grown_after<'a>(
     alloc: Global,
     dictionary: &Dictionary,
     count: usize,
-    name: &'a str,
 ) -> Result<Option<Vec<u8>>, RunFault<'a>> {
-    match grown_text(alloc, dictionary, count) {
-        Ok(kept) => Ok(kept),
-        Err(_) => Err(RunFault::Tables(table_commands::Fault::Dictionary(name, false))),
-    }
+    let kept = grown_text(alloc, dictionary, count)?;
+    Ok(kept)
 }
 
 /// Follows the file that arrives. Gives the text of the dictionary's file if it has more than that many texts then.
@@ -156,7 +153,7 @@ fn follow_counted<'a, A: Answering, S: Sources<'a>, W: Write>(
     alloc: Global,
     sources: &S,
     following: &mut Following<'_, 'a>,
-    named: (&'a str, usize),
+    count: usize,
     texts: &mut Texts,
     out: &mut Watched<W>,
 ) -> Result<Option<Vec<u8>>, RunFault<'a>>
@@ -168,9 +165,8 @@ fn follow_counted<'a, A: Answering, S: Sources<'a>, W: Write>(
         → IfErr result (FailsText (S.content sources.now (get_or (map (λ s. s.now) following.old.job.paths.now) following.old.stream.place []))
         (followed_by following.old) (W.contents (inner_of out.old)) (W.contents (inner_of out.new))) }
 {
-    let (name, count) = named;
     follow_file(engine, alloc, sources, following, texts, out)?;
-    grown_after(alloc, &following.dictionary, count, name)
+    grown_after(alloc, &following.dictionary, count)
 }
 
 /// Follows by the dictionary of that name. Gives the text of its file if it has grown.
@@ -195,18 +191,10 @@ fn follow_with<'a, A: Answering, S: Sources<'a>, W: Write>(
         (map (λ s. s.now) streamed.entry.job.paths.now) streamed.entry.job.query.now (W.contents (inner_of out.old))
         (W.contents (inner_of out.new))) }
 {
-    let dictionary = dictionary_of(alloc, sources, name, true)?;
+    let dictionary = encoding_dictionary(alloc, sources, streamed.job.schema, name)?;
     let count = dictionary.len();
     let mut following = begin_following(alloc, sources, streamed, dictionary)?;
-    follow_counted(
-        engine,
-        alloc,
-        sources,
-        &mut following,
-        (name, count),
-        texts,
-        out,
-    )
+    follow_counted(engine, alloc, sources, &mut following, count, texts, out)
 }
 
 /// Follows, and keeps the dictionary if there is one, which no other command writes meanwhile.

@@ -32,7 +32,7 @@ pub record IsAnswerBy (known : Known) (schema : Schema) (table : Table) (paths :
 -- the same by the texts of the dictionary that is named, or by none
 abbrev pub IsAnswerFile : Known → Schema → Table → (paths : List (List ℕ)) → (query : List ℕ) → (dictionary : Option (List ℕ)) → (file : List ℕ) → Type 0
 IsAnswerFile known schema table paths query dictionary file =
-    (old : List (List ℕ)) × BeginsWith known dictionary old × IsAnswerBy known schema table paths query old file
+    (old : List (List ℕ)) × BeginsWith known schema dictionary old × IsAnswerBy known schema table paths query old file
 
 -- that file was written
 abbrev pub WritesAnswer : Known → Schema → Table → (paths : List (List ℕ)) → (query : List ℕ) → (dictionary : Option (List ℕ)) → (old new : Option (List ℕ)) → Type 0

@@ -11,31 +11,21 @@ use collector::{Sources, Watched};
 use command_line::Query;
 use diagnostics::{Fault, TextNames, Texts, explain_fault, write_path_hint, write_told};
 use query_answers::Answering;
-use schema_words::read_run_words;
+use schema_words::{names_option, read_run_words};
 use std::alloc::Global;
 use std::io;
 use std::io::Write;
 use table_commands::{Drafts, refuse, report};
 use table_queries::{RunFault, write_columns};
 
-/// Whether a word is an option that `run` has with `--schema` alone, or that one.
-fn is_option(word: &str) -> bool {
-    let name = match word.split_once('=') {
-        Some((name, _)) => name,
-        None => word,
-    };
-    matches!(name, "--schema" | "--dictionary" | "--output")
-}
-
 /// Whether a line, whose first word is the program's own, is one of `run` with the option `--schema`, or with one that needs it.
 pub fn is_table_run(words: &[&str]) -> bool
     ensures { result ≡ true → get_or (map (λ s. s.now) words.now) 1 [] ≡ codes "run" }
 {
     match words {
-        [_, first, others @ ..] if *first == "run" => others
-            .iter()
-            .take_while(|word| **word != "--")
-            .any(|word| is_option(*word)),
+        [_, first, others @ ..] if *first == "run" => {
+            names_option(others, &["--schema", "--dictionary", "--output"])
+        }
         _ => false,
     }
 }

@@ -9,7 +9,7 @@ ghost use Rattle.schema_words.specs.declared.check_line.TableCheck.{TableCheck};
 use crate::answering::report_run;
 use collector::{Sources, Watched, put};
 use diagnostics::Texts;
-use schema_words::{TableCheck, read_check_words};
+use schema_words::{TableCheck, names_option, read_check_words};
 use std::alloc::Global;
 use std::io::Write;
 use table_commands::{refuse, report};
@@ -20,10 +20,7 @@ pub fn is_table_check(words: &[&str]) -> bool
     ensures { result ≡ true → get_or (map (λ s. s.now) words.now) 1 [] ≡ codes "check" }
 {
     match words {
-        [_, first, others @ ..] if *first == "check" => others
-            .iter()
-            .take_while(|word| **word != "--")
-            .any(|word| *word == "--schema" || word.starts_with("--schema=")),
+        [_, first, others @ ..] if *first == "check" => { names_option(others, &["--schema"]) }
         _ => false,
     }
 }

@@ -16,8 +16,8 @@ use schema_words::TableRun;
 use std::alloc::Global;
 use std::io::Write;
 use table_commands::{
-    Drafts, InputFault, append_input, begin_dictionary, dictionary_of, grown_text, table_fault,
-    write_with,
+    Drafts, InputFault, append_input, begin_dictionary, encoding_dictionary, grown_text,
+    table_fault, write_with,
 };
 use table_queries::{EngineSink, Job, RunFault, asked_output, begin_run};
 use tables::{decode, has_epochs};
@@ -89,7 +89,7 @@ fn file_with<'a, A: Answering, S: Sources<'a>>(
     ensures { IfOk result (λ made. IsAnswerFile (S.content sources.now) job.now.schema.now job.now.table.now (map (λ s. s.now) job.now.paths.now) job.now.query.now
         (Some name.now) made.0.items) }
 {
-    let mut dictionary = dictionary_of(alloc, sources, name, true)?;
+    let mut dictionary = encoding_dictionary(alloc, sources, job.schema, name)?;
     let count = dictionary.len();
     let text = answer_file(engine, alloc, sources, job, &mut dictionary, texts)?;
     let kept = grown_text(alloc, &dictionary, count)?;
@@ -149,8 +149,8 @@ pub fn run_job<'a, A: Answering, S: Sources<'a>, D: Drafts, W: Write>(
 
 /// Writes the CSV file of a query's answer, and then keeps the dictionary. At a fault nothing is written, unless the writer or the dictionary's file failed.
 ///
-/// Faults are reported in this order: those of `begin_run`, the dictionary, the CSV files, the run, the answer's cells. What was read of the query and its
-/// input text is left in `texts`.
+/// Faults are reported in this order: those of `begin_run`, the dictionary, the CSV files, the run, the answer's cells. What was read of the query, and lines
+/// that the engine refused, are left in `texts`.
 pub fn run_tables<'a, A: Answering, S: Sources<'a>, D: Drafts, W: Write>(
     engine: &A,
     alloc: Global,

@@ -114,3 +114,8 @@ AreNumbered constants old new = (next : List (List ℕ)) × AreAdded constants o
 unfoldable pub AreNew : (texts : List (List ℕ)) → List Constant → Type 0
 AreNew texts [] = ⊤
 AreNew texts (constant ∷ constants) = (¬ HasText constant.text.items texts) × AreNew (texts ++ constant.text.items ∷ []) constants
+
+-- the texts from a place on are those of the constants, as far as both go
+abbrev pub AreInPlace : List Constant → (texts : List (List ℕ)) → (place : ℕ) → Type 0
+AreInPlace [] texts place = ⊤
+AreInPlace (constant ∷ constants) texts place = IfSome (slice_get texts place) (λ text. text ≡ constant.text.items) × AreInPlace constants texts (suc place)

@@ -5,10 +5,10 @@ ghost use Rattle.schema.specs.declared.tables.Schema.{Schema};
 ghost use Rattle.schema.specs.declared.tables.Table.{Table};
 ghost use Rattle.schema.specs.Schemas.{IsSchema};
 ghost use Rattle.csv_answers.specs.declared.refusal.Fault.{Fault};
-ghost use Rattle.std.specs.Prelude.{◌≡◌, ◌++◌, ◌∷◌, [], IfErr, IfOk, List, OnOk, Option, Some, codes, get_or, length, slice_get, map, ℕ};
+ghost use Rattle.std.specs.Prelude.{◌≡◌, ◌↔◌, ◌+◌, ◌<◌, ◌^◌, ◌++◌, ◌∷◌, [], true, IfErr, IfOk, IfSome, IsTrue, List, OnOk, Option, Some, codes, get_or, length, slice_get, map, ℕ};
 ghost use Rattle.std.specs.List.{list_any};
 ghost use Rattle.csv_cells.specs.Texts.{Grows, texts_of};
-ghost use Rattle.tables.specs.Inputs.{AreAdded, AreFiles, AreJoined, AreNew, AreNumbered, Completes, IsInput, NeedsNoFile, IsInputFault, IsRefusedFile, IsRefusedInput, has_own, held};
+ghost use Rattle.tables.specs.Inputs.{AreAdded, AreFiles, AreInPlace, AreJoined, AreNew, AreNumbered, Completes, IsInput, NeedsNoFile, IsInputFault, IsRefusedFile, IsRefusedInput, has_own, held};
 ghost use Rattle.csv_answers.specs.declared.refusal.TableRefusal.TheVariants as refusal;
 
 use crate::file::encode_file;
@@ -96,7 +96,7 @@ fn encode_some<F: TableFiles, O: LineSink>(
     Ok(())
 }
 
-/// Whether a table has an epoch for each value of a column.
+/// Whether one of the tables has an epoch for each value of a column.
 pub fn has_epochs(tables: &[Table]) -> bool
     ensures { result ≡ list_any (λ table. has_own table.epochs) tables.now }
 {
@@ -117,6 +117,38 @@ fn number_constants(
     Ok(())
 }
 
+/// Whether a place of a dictionary has a constant's text, or no text.
+fn is_in_place(constant: &Constant, dictionary: &Dictionary, place: usize) -> bool
+    requires { place < 2 ^ 63 }
+    ensures { IsTrue result ↔ IfSome (slice_get (texts_of dictionary.now) place) (λ text. text ≡ constant.now.text.items) }
+{
+    match dictionary.text(place as i64) {
+        Some(text) => text == constant.text.as_slice(),
+        None => true,
+    }
+}
+
+/// Whether the texts from a place on are those of the constants, as far as both go.
+fn are_in_place(constants: &[Constant], dictionary: &Dictionary, place: usize) -> bool
+    requires { place + length constants.now < 2 ^ 63 }
+    ensures { IsTrue result ↔ AreInPlace constants.now (texts_of dictionary.now) place }
+{
+    match constants {
+        [] => true,
+        [constant, constants @ ..] => {
+            is_in_place(constant, dictionary, place)
+                && are_in_place(constants, dictionary, place + 1)
+        }
+    }
+}
+
+/// Whether a dictionary begins with the constants, as far as it goes: then each of them has the number of its place, or gets it.
+pub fn begins_with_constants(constants: &[Constant], dictionary: &Dictionary) -> bool
+    ensures { IsTrue result ↔ AreInPlace constants.now (texts_of dictionary.now) 0 }
+{
+    are_in_place(constants, dictionary, 0)
+}
+
 /// What stops all files, told of the first.
 fn stopped(fault: SinkFault) -> EncodeFault
     ensures { NeedsNoFile result.fault }
@@ -130,7 +162,8 @@ fn stopped(fault: SinkFault) -> EncodeFault
 
 /// Appends the input text of the files. New texts go to the end of the dictionary, the constants first.
 ///
-/// A refusal is of the first file that has a fault, but that those with all their rows in each epoch come first.
+/// A refusal is of the first file that has a fault, but that those with all their rows in each epoch come first. Then some lines may have gone to `out`, and
+/// new texts into the dictionary.
 pub fn encode<F: TableFiles, O: LineSink>(
     alloc: Global,
     schema: &Schema,

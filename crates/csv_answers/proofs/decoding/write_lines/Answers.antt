@@ -1,4 +1,4 @@
-use Rattle.std.proofs.Common.{◌≡◌, ◌++◌, ◌∷◌, ◌<◌, ◌+◌, ◌-◌, [], ℕ, List, get_or, length, take, take_all, drop, refl, ap, subst, arith}
+use Rattle.std.proofs.Common.{◌≡◌, ◌++◌, ◌∷◌, ◌∙◌, ◌<◌, ◌+◌, ◌-◌, [], ℕ, List, get_or, length, take, take_all, drop, true, refl, sym, ap, subst, arith}
 use Rattle.std.proofs.lemmas.Bool.{ne_eqb}
 use Rattle.std.proofs.lemmas.List.{append-nil, append_assoc, length-append}
 use Rattle.std.specs.List.{list_any}
@@ -8,7 +8,7 @@ use Rattle.csv_cells.specs.Texts.{texts_of}
 use Rattle.csv_answers.specs.Answers.{outside, where_of}
 use Rattle.csv_answers.specs.Files.{IsFile}
 use Rattle.csv_answers.proofs.Decoded.{lines-push, no-lines, no-rows, rows-push, up-to}
-use Rattle.csv_answers.proofs.Refused.{first-fault, last-fault}
+use Rattle.csv_answers.proofs.Refused.{end-fault, first-fault, last-fault}
 use Rattle.csv_answers.proofs.decoding.write_lines.Goals as goal
 use Rattle.csv_answers.proofs.decoding.write_lines.Goals.{then-answer-end-eq10+in_ok-write_line+else-not-branch, else-answer-end-eq10}
 
@@ -76,4 +76,14 @@ returns-then-begin-answer-clause-refused c = rw c.refused-then-begin-answer.ensu
       refl,
       last-fault c.args.table.now c.args.with_epochs (texts_of c.args.dictionary.now) answer c.loop-end.begin c.loop-end.line lines rows (where_of c.loop-end.place)
           c.if-begin-answer.true (rw all at c.loop-end.invariant.free) lined read count,
+    ))
+
+pub returns-then-not-is_whole-clause-refused : goal.returns-then-not-is_whole-clause-refused
+returns-then-not-is_whole-clause-refused c = rw c.refused-then-not-is_whole.ensures (λ before f.
+    let answer : List ℕ = c.args.answer.now in
+    let (lines, rows, lined, read, file, count) = c.loop-end.invariant.told before f in
+    let all : take c.loop-end.begin answer ≡ answer = take_all c.loop-end.begin answer (omega (arith, c.if-begin-answer.false)) in (
+      refl,
+      end-fault c.args.table.now c.args.with_epochs (texts_of c.args.dictionary.now) answer c.loop-end.line lines rows (where_of c.loop-end.place)
+          (rw all at lined) read count (λ whole. let same : true ≡ false = sym (c.is_whole.ensures.1 whole) ∙ c.if-not-is_whole.true in cc same),
     ))
